@@ -1,0 +1,1 @@
+// Lemmas over plain lists and numbers that several crates cite; they stand in proofs/.

@@ -1,0 +1,4 @@
+pub mod Computing
+pub mod Example
+pub mod Refusals
+pub mod Trials

@@ -1,0 +1,17 @@
+pub mod Common
+pub mod Answers
+pub mod Text
+pub mod Scalars
+pub mod Lists
+pub mod Listing
+pub mod Page
+pub mod Entries
+pub mod Rules
+pub mod Policy
+pub mod Table
+pub mod Match
+pub mod Verdict
+pub mod Overlap
+pub mod Filled
+pub mod Lookup
+pub mod Promises

@@ -1,0 +1,43 @@
+-- List values (document 01, "The page": "Lists are `[]` or `[a, b]`, with one space after each comma and none elsewhere").
+use Prim.Native.Nat.{ℕ, _-_}
+use mathlib.Core.List.{List, [], _∷_, map}
+use mathlib.Core.Bool.{Bool, true, false, cond, not, _&&_, Bool·beq}
+use lib.Dec.{eqb, leb}
+use lib.ListN.{length, getD, take, drop}
+use Rattle.paper.specs.Common.{isEmpty, allOf, cut}
+use Rattle.paper.specs.Text.{space}
+use Rattle.paper.specs.Scalars.{Scalar, isScalar}
+
+abbrev pub comma : ℕ
+comma = 44
+
+-- a value that begins with `[` and ends with `]`
+unfoldable pub bracketed : List ℕ → Bool
+bracketed v = leb 2 (length v) && eqb (getD v 0 0) 91 && eqb (getD v (length v - 1) 0) 93
+
+-- what stands between the brackets
+abbrev pub inside : List ℕ → List ℕ
+inside v = take (length v - 2) (drop 1 v)
+
+-- "one space after each comma and none elsewhere"; `last` is the byte before
+unfoldable pub spaced : ℕ → List ℕ → Bool
+spaced last [] = not (eqb last comma)
+spaced last (b ∷ bs) = Bool·beq (eqb last comma) (eqb b space) && spaced b bs
+
+-- a piece without its spaces
+unfoldable pub unspaced : List ℕ → List ℕ
+unspaced [] = []
+unspaced (b ∷ bs) = cond (eqb b space) (unspaced bs) (b ∷ unspaced bs)
+
+-- what stands between the commas, the spaces aside; between brackets with nothing in them there is no element
+unfoldable pub elementsIn : List ℕ → List (List ℕ)
+elementsIn s = cond (isEmpty s) [] (map unspaced (cut comma s))
+
+-- the elements of a value; one that is no list (`all`, a bare field) has none
+unfoldable pub elements : List ℕ → List (List ℕ)
+elements v = cond (bracketed v) (elementsIn (inside v)) []
+
+-- 4: "layout (also no list .. where one is due)"; 5: "scalar malformed, list elements too"; 0: neither
+unfoldable pub listFault : Scalar → List ℕ → ℕ
+listFault scalar v =
+    cond (bracketed v && spaced 0 (inside v)) (cond (allOf (isScalar scalar) (elements v)) 0 5) 4

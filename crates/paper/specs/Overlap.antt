@@ -1,0 +1,62 @@
+-- The overlap report (document 01, "Overlap report", and demand 3).
+use Prim.Native.Nat.{ℕ, zero, suc, _<_, _≤_}
+use mathlib.Core.Path.{_≡_}
+use mathlib.Core.Logic.{_⊎_}
+use mathlib.Core.List.{List, [], _∷_, _++_}
+use mathlib.Core.Bool.{Bool, true, false, cond, _||_}
+use lib.ListN.{length, getD, take, drop}
+use Rattle.paper.specs.declared.Report.{Report}
+use Rattle.paper.specs.declared.Report.the-variants.{Clear, Clash, Unreported}
+use Rattle.paper.specs.Scalars.{Sort, anyone, variable, root, user}
+use Rattle.paper.specs.Policy.{Context, Grant, every, Entry, Policy}
+use Rattle.paper.specs.Table.{padded}
+use Rattle.paper.specs.Match.{Moment, entryMatches}
+
+-- entry k of a policy
+unfoldable pub entryOfPolicy : Policy → ℕ → Entry
+entryOfPolicy p k =
+    getD (p .entries) k (record { context = record { pattern = []; uid = anyone; gid = anyone }; subject = 0; calls = every; returns = every; reads = []; writes = [] })
+
+-- a moment "is matched by two different entries"
+pub record BothMatch (p : Policy) (i j : ℕ) (m : Moment) : Type 0 where
+  pub one : entryMatches p (entryOfPolicy p i) m ≡ true
+  pub other : entryMatches p (entryOfPolicy p j) m ≡ true
+
+-- "no moment (a stack of one or more functions, of any length, a uid, a gid)"
+abbrev pub NeverBoth : Policy → ℕ → ℕ → Type 0
+NeverBoth p i j = (m : Moment) → BothMatch p i j m → ⊥
+
+-- "lower entry least, then higher least"
+abbrev pub PairBefore : ℕ → ℕ → ℕ → ℕ → Type 0
+PairBefore i j lower higher = (i < lower) ⊎ ((i ≡ lower) × (j < higher))
+
+unfoldable pub isUser : Sort → Bool
+isUser anyone = false
+isUser variable = false
+isUser root = false
+isUser user = true
+
+-- "uid (1 if either entry says `user`, else 0)"
+unfoldable pub witnessUid : Entry → Entry → ℕ
+witnessUid a b = cond (isUser (a .context .uid) || isUser (b .context .uid)) 1 0
+
+-- "the witness holds the stack from its base, then zeros to word 32. Words past 32 never change."
+unfoldable pub witnessLeft : List ℕ → List ℕ → List ℕ
+witnessLeft stack old = padded 32 stack ++ drop 32 old
+
+-- "the first such pair in file order" with "a moment of at most 32 functions that both match"
+pub record FirstClash (p : Policy) (old new : List ℕ) (lower higher depth uid gid : ℕ) : Type 0 where
+  pub ordered : lower < higher
+  pub listed : higher < length (p .entries)
+  pub first : (i j : ℕ) → i < j → j < length (p .entries) → PairBefore i j lower higher → NeverBoth p i j
+  pub both : BothMatch p lower higher (record { stack = take depth new; uid = uid; gid = gid })
+  pub short : depth ≤ 32
+  pub left : new ≡ witnessLeft (take depth new) old
+  pub uidIs : uid ≡ witnessUid (entryOfPolicy p lower) (entryOfPolicy p higher)
+  pub gidIs : gid ≡ 0
+
+-- what the report says of a policy, and what it leaves in the witness
+abbrev pub Says : Policy → List ℕ → List ℕ → Report → Type 0
+Says p old new Clear = (new ≡ witnessLeft [] old) × ((i j : ℕ) → i < j → j < length (p .entries) → NeverBoth p i j)
+Says p old new (Clash lower higher depth uid gid) = FirstClash p old new lower higher depth uid gid
+Says p old new (Unreported number) = ⊥

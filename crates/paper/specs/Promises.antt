@@ -1,0 +1,126 @@
+-- The five promises: for each public function its whole answer, and what every word or byte lent to it holds afterwards, for every input
+-- (document 01, "Numbers that come back" and "Holding a promise to its word").
+use Prim.Native.Nat.{ℕ, zero, suc}
+use mathlib.Core.Path.{_≡_}
+use mathlib.Core.List.{List, [], _∷_, _++_}
+use mathlib.Core.Bool.{Bool, true, false, cond, not}
+use lib.Dec.{eqb, ltb}
+use lib.ListN.{length, drop, replicate}
+use Rattle.paper.specs.declared.Access.{Access}
+use Rattle.paper.specs.declared.Access.the-variants.{Read, Write, Call, Return}
+use Rattle.paper.specs.declared.Reading.{Reading}
+use Rattle.paper.specs.declared.Reading.the-variants.{Accepted, Unread}
+use Rattle.paper.specs.declared.Filling.{Filling}
+use Rattle.paper.specs.declared.Filling.the-variants.{Written, Unfilled}
+use Rattle.paper.specs.declared.Verdict.{Verdict}
+use Rattle.paper.specs.declared.Verdict.the-variants.{Unjudged}
+use Rattle.paper.specs.declared.Report.{Report}
+use Rattle.paper.specs.declared.Report.the-variants.{Unreported}
+use Rattle.paper.specs.declared.Map.{Map}
+use Rattle.paper.specs.Common.{within}
+use Rattle.paper.specs.Answers.{fillingNumber, readingNumber}
+use Rattle.paper.specs.Text.{badByteLine}
+use Rattle.paper.specs.Page.{Field, Page, fields, fault, pageOf}
+use Rattle.paper.specs.Rules.{ruled, unlessLine}
+use Rattle.paper.specs.Policy.{Policy, policyOf}
+use Rattle.paper.specs.Table.{tableWords, wordsOf, policyIn, wellFormed}
+use Rattle.paper.specs.Match.{Moment}
+use Rattle.paper.specs.Verdict.{verdictOf}
+use Rattle.paper.specs.Overlap.{Says}
+use Rattle.paper.specs.Filled.{filledText}
+use Rattle.paper.specs.Lookup.{Stretch, nameIn}
+
+-- ---- a text: its fields, or its refusal, 2 to 11
+
+-- "Text is at most 65,536 bytes"
+abbrev pub textBytes : ℕ
+textBytes = 65536
+
+abbrev pub pageRuled : Page → Page
+pageRuled (fields fs) = ruled fs
+pageRuled (fault number line) = fault number line
+
+-- "Reader order: 1, 2, 3, then the first line with 4, 9 or 5 .., then 6, 7, 8, 10, 11"
+unfoldable pub fileOf : List ℕ → Page
+fileOf t = cond (ltb textBytes (length t)) (fault 2 0) (unlessLine 3 (badByteLine 1 t) (pageRuled (pageOf t)))
+
+-- ---- the reader: a text, and a table
+
+abbrev pub reading : Page → Reading
+reading (fields fs) = Accepted
+reading (fault number line) = Unread number line
+
+-- 1: "table under 16,384 words"
+unfoldable pub readAnswer : List ℕ → List ℕ → Reading
+readAnswer t table = cond (ltb (length table) tableWords) (Unread 1 0) (reading (fileOf t))
+
+-- "first 16,384 words zero (2 to 11)", or the words of the policy
+abbrev pub wordsRead : Page → List ℕ
+wordsRead (fields fs) = wordsOf (policyOf fs)
+wordsRead (fault number line) = replicate tableWords 0
+
+-- "Words past 16,384 .. never change"; 1: "nothing changed"
+unfoldable pub readLeaves : List ℕ → List ℕ → List ℕ
+readLeaves t table = cond (eqb (readingNumber (readAnswer t table)) 1) table (wordsRead (fileOf t) ++ drop tableWords table)
+
+-- ---- the filler: a text, and the output
+
+-- "The filler gives 2 to 11 as the reader does, then 31, then 30"
+unfoldable pub fillingOf : ℕ → ℕ → Filling
+fillingOf room size = cond (ltb textBytes size) (Unfilled 31 0) (cond (ltb room size) (Unfilled 30 0) (Written size))
+
+abbrev pub filling : ℕ → Page → Filling
+filling room (fields fs) = fillingOf room (length (filledText fs))
+filling room (fault number line) = Unfilled number line
+
+unfoldable pub fillAnswer : List ℕ → List ℕ → Filling
+fillAnswer t out = filling (length out) (fileOf t)
+
+abbrev pub textFilled : Page → List ℕ
+textFilled (fields fs) = filledText fs
+textFilled (fault number line) = []
+
+-- "on refusal its output is untouched"; "bytes past the filled text never change"
+unfoldable pub fillLeaves : List ℕ → List ℕ → List ℕ
+fillLeaves t out =
+    cond (eqb (fillingNumber (fillAnswer t out)) 0) (textFilled (fileOf t) ++ drop (length (textFilled (fileOf t))) out) out
+
+-- ---- the judge: a table, and an event. It changes nothing
+
+-- "one of the operations read 1, write 2, call 3, return 4, with a target"
+unfoldable pub accessFor : ℕ → ℕ → Access
+accessFor operation target =
+    cond (eqb operation 1) (Read (record { 0 = target }))
+    (cond (eqb operation 2) (Write (record { 0 = target }))
+    (cond (eqb operation 3) (Call (record { 0 = target })) (Return (record { 0 = target }))))
+
+-- 21: "stack of 0 or over 64 frames"; 22: "allocation stack over 64 frames"; 23: "operation not 1 to 4"
+unfoldable pub judgeEvent : Policy → ℕ → ℕ → Moment → Moment → Verdict
+judgeEvent p operation target m allocation =
+    cond (not (within 1 64 (length (m .stack)))) (Unjudged 21)
+    (cond (ltb 64 (length (allocation .stack))) (Unjudged 22)
+    (cond (not (within 1 4 operation)) (Unjudged 23)
+    (verdictOf p (accessFor operation target) m allocation)))
+
+-- 20: "table not well formed"
+unfoldable pub judgeAnswer : List ℕ → ℕ → ℕ → Moment → Moment → Verdict
+judgeAnswer table operation target m allocation =
+    cond (wellFormed table) (judgeEvent (policyIn table) operation target m allocation) (Unjudged 20)
+
+-- ---- the overlap report: a table, and the witness before and after. The stack in the witness is not fixed, but for what `Says` says of it
+
+-- "the report's [order is] 20, 40"; 40: "witness room under 32 words"
+unfoldable pub reportRefusal : List ℕ → List ℕ → ℕ
+reportRefusal table witness = cond (wellFormed table) (cond (ltb (length witness) 32) 40 0) 20
+
+abbrev pub ReportedUnless : ℕ → Policy → List ℕ → List ℕ → Report → Type 0
+ReportedUnless zero p old new r = Says p old new r
+ReportedUnless (suc number) p old new r = (r ≡ Unreported (suc number)) × (new ≡ old)
+
+unfoldable pub Reported : List ℕ → List ℕ → List ℕ → Report → Type 0
+Reported table old new r = ReportedUnless (reportRefusal table old) (policyIn table) old new r
+
+-- ---- name lookup: a text, a map, a domain number. It changes nothing
+
+unfoldable pub lookupAnswer : List ℕ → Map → ℕ → Stretch
+lookupAnswer t map d = nameIn t map d (fileOf t)

@@ -1,0 +1,68 @@
+// The types of the answers that document 01 gives, and of what an event names. The meaning stands in specs/.
+
+// A function and an object are both numbered from 0 and are kept apart.
+pub struct FunctionNumber(pub u16);
+
+pub struct ObjectNumber(pub u16);
+
+// An operation, by its code.
+pub struct Operation(pub u16);
+
+impl Operation {
+    pub const READ: u16 = 1;
+
+    pub const WRITE: u16 = 2;
+
+    pub const CALL: u16 = 3;
+
+    pub const RETURN: u16 = 4;
+}
+
+// An operation with its target: a read or a write is of an object, a call or a return of a function.
+pub enum Access {
+    Read(ObjectNumber),
+    Write(ObjectNumber),
+    Call(FunctionNumber),
+    Return(FunctionNumber),
+}
+
+// The reader's answer.
+pub enum Reading {
+    Accepted,
+    Unread { number: u16, line: u32 },
+}
+
+// The filler's answer: how many bytes the filled text has, or why there is none.
+pub enum Filling {
+    Written { size: u32 },
+    Unfilled { number: u16, line: u32 },
+}
+
+// The judge's answer.
+pub enum Verdict {
+    Inside,
+    Granted { entry: u16 },
+    Violation { number: u16 },
+    Unjudged { number: u16 },
+}
+
+// The overlap report's answer.
+pub enum Report {
+    Clear,
+    Clash {
+        lower: u16,
+        higher: u16,
+        depth: u16,
+        uid: u32,
+        gid: u32,
+    },
+    Unreported {
+        number: u16,
+    },
+}
+
+// Which map a name is looked up in.
+pub enum Map {
+    Objects,
+    Subjects,
+}
