@@ -4,7 +4,7 @@ use Prim.Native.Nat.{ℕ, zero, suc, _+_, _*_, _-_, _/_, _%_, _^_, min}
 use mathlib.Core.List.{List, [], _∷_, _++_, map, flatMap}
 use mathlib.Core.Bool.{Bool, true, false, cond, not, _&&_, _||_}
 use lib.Dec.{eqb, ltb, leb}
-use lib.ListN.{length, getD, take, drop, replicate}
+use lib.ListN.{length, getD, take, drop, set, replicate}
 use Rattle.paper.specs.Common.{within, isEmpty, upTo, countUp, same}
 use Rattle.paper.specs.Scalars.{Sort, anyone, variable, root, user}
 use Rattle.paper.specs.Rules.{sortNumber}
@@ -53,11 +53,11 @@ bitsWord [] = 0
 bitsWord (b ∷ bs) = cond b 1 0 + 2 * bitsWord bs
 
 unfoldable pub setWords : List Bool → List ℕ
-setWords set = map (λ j. bitsWord (take 16 (drop (16 * j) set))) (countUp 0 8)
+setWords domains = map (λ j. bitsWord (take 16 (drop (16 * j) domains))) (countUp 0 8)
 
 unfoldable pub grantWords : Grant → List ℕ
 grantWords every = padded 9 (1 ∷ [])
-grantWords (these set) = 0 ∷ setWords set
+grantWords (these domains) = 0 ∷ setWords domains
 
 unfoldable pub entryWords : Entry → List ℕ
 entryWords e =
@@ -116,7 +116,11 @@ contextIn ws at =
 
 -- domain d is bit d mod 16 of word d / 16 of a set
 unfoldable pub isIn : List ℕ → ℕ → Bool
-isIn set d = eqb (word set (d / 16) / 2 ^ (d % 16) % 2) 1
+isIn domains d = eqb (word domains (d / 16) / 2 ^ (d % 16) % 2) 1
+
+-- the set with domain d in it; a domain past the set's last word changes nothing
+unfoldable pub withDomain : List ℕ → ℕ → List ℕ
+withDomain domains d = cond (isIn domains d) domains (set domains (d / 16) (word domains (d / 16) + 2 ^ (d % 16)))
 
 -- a grant among so many domains
 unfoldable pub grantIn : List ℕ → ℕ → ℕ → Grant
