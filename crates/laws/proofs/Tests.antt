@@ -1,6 +1,6 @@
 -- Laws of `_&&_` and of the paper's tests over numbers and lists.
 use mathlib.Core.Path.{_≡_, refl, sym, ap, _∙_}
-use mathlib.Core.Bool.{Bool, true, false, _&&_}
+use mathlib.Core.Bool.{Bool, true, false, not, _&&_}
 use mathlib.Core.Logic.{⊎-elim}
 use mathlib.Core.List.{List, [], _∷_}
 use Prim.Native.Nat.{ℕ, zero, suc, _+_, _<_, _≤_}
@@ -8,7 +8,9 @@ use native.Mathlib.Nat.{le-of-suc-le-suc, not-suc-le-zero, eq-or-lt-of-le}
 use native.Mathlib.Numerals.{add-one}
 use native.Mathlib.Omega.{arith}
 use lib.Dec.{eqb}
-use borrow.Author.Tests.{eqb-true, eq-eqb}
+use lib.ListN.{length, getD, drop, drop-of-length-le}
+use lib.Seq.{drop-cons}
+use borrow.Author.Tests.{eqb-true, eq-eqb, ne-eqb, not-true, not-false}
 use Rattle.paper.specs.Common.{upTo, same}
 
 pub both-true : (a b : Bool) → a ≡ true → b ≡ true → (a && b) ≡ true
@@ -89,3 +91,39 @@ same-equal (b ∷ bs) (c ∷ cs) h =
     let p : b ≡ c = eqb-true b c (both-left (eqb b c) (same bs cs) h) in
     let q : bs ≡ cs = same-equal bs cs (both-right (eqb b c) (same bs cs) h) in
     cc
+
+-- they differ where their lengths do
+pub same-lengths : (x y : List ℕ) → (length x ≡ length y → ⊥) → false ≡ same x y
+same-lengths x y apart = go (same x y) refl
+  where
+    go : (b : Bool) → same x y ≡ b → false ≡ b
+    go true e = absurd (apart (ap length (same-equal x y e)))
+    go false e = refl
+
+-- what is left of two stretches, one element on
+pub same-step : (x y : List ℕ) (i : ℕ) → i < length x → length x ≡ length y → same (drop i x) (drop i y) ≡ (eqb (getD x i 0) (getD y i 0) && same (drop (i + 1) x) (drop (i + 1) y))
+unfolding same
+same-step x y i h e = let k : i < length y = omega arith in rw (add-one i, drop-cons x i 0, drop-cons y i 0)
+
+pub same-again :
+    (x y : List ℕ) (i : ℕ) → i < length x → length x ≡ length y → getD x i 0 ≡ getD y i 0 → same (drop i x) (drop i y) ≡ same x y → same (drop (i + 1) x) (drop (i + 1) y) ≡ same x y
+same-again x y i h e g inv = rw (← inv, same-step x y i h e, eq-eqb _ _ g)
+
+pub same-differs :
+    (x y : List ℕ) (i : ℕ) → i < length x → length x ≡ length y → (getD x i 0 ≡ getD y i 0 → ⊥) → same (drop i x) (drop i y) ≡ same x y → false ≡ same x y
+same-differs x y i h e g inv = rw (← inv, same-step x y i h e, ne-eqb _ _ g)
+
+pub same-ends : (x y : List ℕ) (i : ℕ) → length x ≤ i → length x ≡ length y → same (drop i x) (drop i y) ≡ same x y → true ≡ same x y
+unfolding same
+same-ends x y i h e inv = let k : length y ≤ i = omega arith in rw (← inv, drop-of-length-le x h, drop-of-length-le y k)
+
+-- ---- a loop over the numbers below n, with a function that makes the test
+
+pub tests-again : (f : ℕ → Bool) (i : ℕ) (r : Bool) → upTo f i ≡ true → r ≡ f i → not r ≡ false → upTo f (i + 1) ≡ true
+tests-again f i r inv e h = upTo-more f i inv (sym e ∙ not-false r h)
+
+pub test-fails : (f : ℕ → Bool) (n i : ℕ) (r : Bool) → i < n → r ≡ f i → not r ≡ true → false ≡ upTo f n
+test-fails f n i r l e h = sym (upTo-fails f n i l (sym e ∙ not-true r h))
+
+pub tests-done : (f : ℕ → Bool) (n i : ℕ) → n ≤ i → i ≤ n → upTo f i ≡ true → true ≡ upTo f n
+tests-done f n i p q h = sym (upTo-done f n i p q h)
