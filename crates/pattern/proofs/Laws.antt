@@ -2,12 +2,12 @@
 use Prim.Native.Nat.{ℕ, zero, suc, _+_, _-_, _<_, _≤_}
 use native.Mathlib.Omega.{arith}
 use mathlib.Core.Path.{_≡_, refl, sym, ap, _∙_}
-use mathlib.Core.Bool.{Bool, true, false, _&&_}
+use mathlib.Core.Bool.{Bool, true, false}
 use mathlib.Core.List.{List, [], _∷_, map}
 use lib.ListN.{length, drop, getD, drop-of-length-le}
 use borrow.Author.Tests.{eq-eqb, ne-eqb}
 use Rattle.paper.specs.Common.{allOf}
-use Rattle.paper.specs.Policy.{Element, all, fn}
+use Rattle.paper.specs.Policy.{all, fn}
 use Rattle.paper.specs.Table.{elementIn}
 use Rattle.paper.specs.Match.{swallowing, firstEquals, matches, isAll}
 use Rattle.laws.proofs.Places.{drop-more}
@@ -61,7 +61,7 @@ module _ (p : List ℕ) (i : ℕ) (s : List ℕ) (j : ℕ) where
     pub reaches-all : a < length p → getD p a 0 ≡ 0 → Says (All (a + 1) b) p i s j
     reaches-all h e =
         record {
-          further = let k : i ≤ a = fits .further in omega arith;
+          further = omega arith;
           inPattern = omega arith;
           notBack = fits .notBack;
           inStack = fits .inStack;
@@ -77,17 +77,17 @@ module _ (p : List ℕ) (i : ℕ) (s : List ℕ) (j : ℕ) where
     pub frame-differs : a < length p → (getD p a 0 ≡ 0 → ⊥) → (b ≡ length s → ⊥) → (getD p a 0 - 1 ≡ getD s b 0 → ⊥) → Says Fail p i s j
     unfolding matches firstEquals
     frame-differs h n k d =
-        let l : b < length s = let m : b ≤ length s = fits .inStack in omega arith in
+        let l : b < length s = omega arith in
         fits .decides ∙ rw (at-fn p a h n, drop-more s b l, ne-eqb (getD p a 0 - 1) (getD s b 0) d)
 
     pub frame-fits : a < length p → (getD p a 0 ≡ 0 → ⊥) → (b ≡ length s → ⊥) → getD p a 0 - 1 ≡ getD s b 0 → Fits p i s j (a + 1) (b + 1)
     unfolding matches firstEquals
     frame-fits h n k e =
-        let l : b < length s = let m : b ≤ length s = fits .inStack in omega arith in
+        let l : b < length s = omega arith in
         record {
-          further = let m : i ≤ a = fits .further in omega arith;
+          further = omega arith;
           inPattern = omega arith;
-          notBack = let m : j ≤ b = fits .notBack in omega arith;
+          notBack = omega arith;
           inStack = omega arith;
           decides = fits .decides ∙ rw (at-fn p a h n, drop-more s b l, eq-eqb (getD p a 0 - 1) (getD s b 0) e) refl;
           never = λ m. fits .never (rw (at-fn p a h n, drop-more s b l) (fn-refuses (getD p a 0 - 1) (getD s b 0) (map elementIn (drop (a + 1) p)) (drop (b + 1) s) m));
@@ -99,7 +99,7 @@ module _ (p : List ℕ) (i : ℕ) (s : List ℕ) (j : ℕ) where
 
     pub frames-left : length p ≤ a → (b ≡ length s → ⊥) → Says Fail p i s j
     frames-left h k =
-        let l : b < length s = let m : b ≤ length s = fits .inStack in omega arith in
+        let l : b < length s = omega arith in
         fits .decides ∙ rw (at-end p a h, drop-more s b l) (empty-refuses (getD s b 0) (drop (b + 1) s))
 
 -- ---- the places that a run up to an `all` leaves
@@ -147,7 +147,7 @@ module _ (p : List ℕ) (i : ℕ) (s : List ℕ) (j n : ℕ) (vain : later p i s
   pub walk-falls : (a b : ℕ) → r ≡ All a b → (m : ℕ) → (length p - i) + (length s - j) ≡ m → (length p - a) + (length s - b) < m
   walk-falls a b e m h =
       let fits : FitsToAll p i s (j + n) a b = fits-to-all p i s (j + n) r says a b e in
-      omega (arith, fits .further, fits .inPattern, fits .notBack, fits .inStack)
+      omega arith
 
   pub walk-all : (a b : ℕ) → r ≡ All a b → (t : Bool) → t ≡ later p a s b → t ≡ later p i s j
   walk-all a b e t h = h ∙ sym (vain ∙ fits-to-all p i s (j + n) r says a b e .decidesLater)

@@ -69,12 +69,13 @@ fn walk(pattern: &[u16], i: usize, stack: &[u16], j: usize) -> bool
             Run::All { rest, frame } => return walk(pattern, rest, stack, frame),
             Run::Fail => {
                 if k == stack.len() {
-                    return false;
+                    break;
                 }
                 swallowed += 1;
             }
         }
     }
+    false
 }
 
 // The pattern matches the stack.

@@ -125,14 +125,6 @@ walk-enum-told-3 : (t : ℕ) → walk-lts.Need-enum-told-3 (
 ) (walk-at t) walk.Post walk-Inv-loop walk-μ-loop
 walk-enum-told-3 t c = search needs
 
-walk-returns-5 : (t : ℕ) → walk-lts.Need-returns-5 (
-  up-to-all-reads.Asked,
-  up-to-all-reads.Learnt,
-  walk-below t,
-  walk.Post,
-) (walk-at t) walk.Post walk-Inv-loop walk-μ-loop
-walk-returns-5 t c = search (needs, walk-ends)
-
 walk-add-swallowed : (t : ℕ) → walk-lts.Need-add-swallowed (
   up-to-all-reads.Asked,
   up-to-all-reads.Learnt,
@@ -157,6 +149,14 @@ walk-loop-again : (t : ℕ) → walk-lts.Need-loop-again (
 ) (walk-at t) walk.Post walk-Inv-loop walk-μ-loop
 walk-loop-again t c = search (needs, walk-on)
 
+walk-returns-5 : (t : ℕ) → walk-lts.Need-returns-5 (
+  up-to-all-reads.Asked,
+  up-to-all-reads.Learnt,
+  walk-below t,
+  walk.Post,
+) (walk-at t) walk.Post walk-Inv-loop walk-μ-loop
+walk-returns-5 t c = search (needs, walk-ends)
+
 pub +walk-spec : {M : Type 1} → statement M
 +walk-spec = close μ-walk λ t. walk-lts.spec (
   up-to-all-reads.Asked,
@@ -180,7 +180,7 @@ pub +walk-spec : {M : Type 1} → statement M
     (walk-walk-requires t)
     (walk-returns-4 t)
     (walk-enum-told-3 t)
-    (walk-returns-5 t)
     (walk-add-swallowed t)
     (walk-loop-less t)
     (walk-loop-again t)
+    (walk-returns-5 t)
