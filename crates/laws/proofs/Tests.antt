@@ -1,14 +1,15 @@
 -- Laws of `_&&_`, of `_||_`, and of the paper's tests over numbers and lists.
 use mathlib.Core.Path.{_≡_, refl, sym, ap, _∙_}
 use mathlib.Core.Bool.{Bool, true, false, _&&_, _||_}
-use mathlib.Core.Logic.{_⊎_, inl, inr, ⊎-elim}
+use mathlib.Core.Logic.{_⊎_, inl, inr, ⊎-elim, dite}
 use mathlib.Core.List.{List, [], _∷_}
 use Prim.Native.Nat.{ℕ, zero, suc, _+_, _<_, _≤_}
 use native.Mathlib.Nat.{le-of-suc-le-suc, not-suc-le-zero, eq-or-lt-of-le}
+use native.Mathlib.Decide.{ℕ-discrete}
 use native.Mathlib.Numerals.{add-one}
 use native.Mathlib.Omega.{arith}
 use lib.Dec.{eqb}
-use borrow.Author.Tests.{eqb-true, eq-eqb}
+use borrow.Author.Tests.{eqb-true, eq-eqb, ne-eqb}
 use Rattle.paper.specs.Common.{upTo, same}
 
 pub both-true : (a b : Bool) → a ≡ true → b ≡ true → (a && b) ≡ true
@@ -50,6 +51,11 @@ neither-left false b p = refl
 pub neither-right : (a b : Bool) → (a || b) ≡ false → b ≡ false
 neither-right true b p = cc
 neither-right false b p = p
+
+-- two equalities that say the same
+pub eqb-same : (a b c d : ℕ) → (a ≡ b → c ≡ d) → (c ≡ d → a ≡ b) → eqb a b ≡ eqb c d
+eqb-same a b c d f g =
+    dite (ℕ-discrete a b) (λ p. eq-eqb a b p ∙ sym (eq-eqb c d (f p))) (λ n. ne-eqb a b n ∙ sym (ne-eqb c d (λ q. n (g q))))
 
 -- ---- a test at every number below n
 
