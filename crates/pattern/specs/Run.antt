@@ -18,7 +18,7 @@ here p i s j = matches (map elementIn (drop i p)) (drop j s)
 abbrev pub later : List ℕ → ℕ → List ℕ → ℕ → Bool
 later p i s j = matches (all ∷ map elementIn (drop i p)) (drop j s)
 
--- from places i and j on all fits up to an `all`; after it stand a and b
+-- from places i and j on every function up to an `all` fits; a is the place after it, b that of the next frame
 pub record FitsToAll (p : List ℕ) (i : ℕ) (s : List ℕ) (j a b : ℕ) : Type 0 where
   pub further : i < a
   pub inPattern : a ≤ length p

@@ -8,7 +8,7 @@ ghost use Rattle.paper.specs.Match.{matches, isAll};
 ghost use Rattle.paper.specs.Table.{elementIn};
 ghost use Rattle.pattern.specs.Run.{Says, later};
 
-// What reading an element and a frame at a time, up to an `all`, comes to.
+// What comes of reading an element and a frame at a time, up to an `all`.
 enum Run {
     // both are read to their end
     Match,
@@ -16,7 +16,7 @@ enum Run {
     Fail,
     // nor from any later frame on
     Never,
-    // all fits up to an `all`: the place after it, and the place in the stack
+    // every function up to an `all` fits: the place after it, and that of the next frame
     All { rest: usize, frame: usize },
 }
 
@@ -52,7 +52,7 @@ fn up_to_all(pattern: &[u16], i: usize, stack: &[u16], j: usize) -> Run
 }
 
 // The pattern from place i on, behind an `all`, against the stack from place j on.
-// The first place where functions fit up to the next `all` serves: what a later one leaves to that `all`, it can swallow.
+// Once the functions up to the next `all` fit, no later place is tried: the frames between, that `all` can swallow.
 fn walk(pattern: &[u16], i: usize, stack: &[u16], j: usize) -> bool
     requires { ⌜ (i ≤ length (now pattern)) × (j ≤ length (now stack)) ⌝ }
     ensures { λ r. ⌜ r ≡ later (now (pattern .entry)) i (now (stack .entry)) j ⌝ }
