@@ -1,2 +1,4 @@
 pub mod Tests
 pub mod Chains
+pub mod Places
+pub mod Sets

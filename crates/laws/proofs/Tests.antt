@@ -1,10 +1,11 @@
--- Laws of `_&&_` and of the paper's tests over numbers and lists.
+-- Laws of `_&&_`, of `_||_`, and of the paper's tests over numbers and lists.
 use mathlib.Core.Path.{_≡_, refl, sym, ap, _∙_}
-use mathlib.Core.Bool.{Bool, true, false, not, _&&_}
-use mathlib.Core.Logic.{⊎-elim}
+use mathlib.Core.Bool.{Bool, true, false, not, _&&_, _||_}
+use mathlib.Core.Logic.{_⊎_, inl, inr, ⊎-elim, dite}
 use mathlib.Core.List.{List, [], _∷_}
 use Prim.Native.Nat.{ℕ, zero, suc, _+_, _<_, _≤_}
 use native.Mathlib.Nat.{le-of-suc-le-suc, not-suc-le-zero, eq-or-lt-of-le}
+use native.Mathlib.Decide.{ℕ-discrete}
 use native.Mathlib.Numerals.{add-one}
 use native.Mathlib.Omega.{arith}
 use lib.Dec.{eqb}
@@ -28,6 +29,35 @@ both-right false b p = cc
 pub both-false : (a b : Bool) → b ≡ false → (a && b) ≡ false
 both-false true b p = p
 both-false false b p = refl
+
+pub either-left : (a b : Bool) → a ≡ true → (a || b) ≡ true
+either-left true b p = refl
+either-left false b p = cc
+
+pub either-right : (a b : Bool) → b ≡ true → (a || b) ≡ true
+either-right true b p = refl
+either-right false b p = p
+
+pub either-of : (a b : Bool) → (a || b) ≡ true → (a ≡ true) ⊎ (b ≡ true)
+either-of true b p = inl refl
+either-of false b p = inr p
+
+pub neither : (a b : Bool) → a ≡ false → b ≡ false → (a || b) ≡ false
+neither true b p q = p
+neither false b p q = q
+
+pub neither-left : (a b : Bool) → (a || b) ≡ false → a ≡ false
+neither-left true b p = p
+neither-left false b p = refl
+
+pub neither-right : (a b : Bool) → (a || b) ≡ false → b ≡ false
+neither-right true b p = cc
+neither-right false b p = p
+
+-- two equalities that say the same
+pub eqb-same : (a b c d : ℕ) → (a ≡ b → c ≡ d) → (c ≡ d → a ≡ b) → eqb a b ≡ eqb c d
+eqb-same a b c d f g =
+    dite (ℕ-discrete a b) (λ p. eq-eqb a b p ∙ sym (eq-eqb c d (f p))) (λ n. ne-eqb a b n ∙ sym (ne-eqb c d (λ q. n (g q))))
 
 -- ---- a test at every number below n
 

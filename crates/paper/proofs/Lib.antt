@@ -1,3 +1,4 @@
+pub mod Bits
 pub mod Computing
 pub mod Example
 pub mod Refusals

@@ -1,4 +1,7 @@
-// The types of the answers that document 01 gives, and of what an event names. The meaning stands in specs/.
+// The types of the answers that document 01 gives, and of what an event names; domain sets are functions of `Operation`.
+// The meaning stands in specs/.
+ghost use mathlib.Core.Path.{_≡_};
+ghost use Rattle.paper.specs.Table.{isIn, withDomain};
 
 // A function and an object are both numbered from 0 and are kept apart.
 pub struct FunctionNumber(pub u16);
@@ -16,6 +19,32 @@ impl Operation {
     pub const CALL: u16 = 3;
 
     pub const RETURN: u16 = 4;
+
+    // Domain d is in the set.
+    pub fn contains(set: &[u16], d: usize) -> bool
+        ensures { λ r. ⌜ r ≡ isIn (now (set .entry)) d ⌝ }
+    {
+        let i = d / 16;
+        let bit = d % 16;
+        if i < set.len() {
+            return (set[i] >> bit) % 2 == 1;
+        }
+        false
+    }
+
+    // Puts domain d into the set.
+    pub fn insert(set: &mut [u16], d: usize)
+        ensures { λ _. ⌜ now (set .exit) ≡ withDomain (now (set .entry)) d ⌝ }
+    {
+        let i = d / 16;
+        let bit = d % 16;
+        if i < set.len() {
+            let word = set[i];
+            if (word >> bit) % 2 == 0 {
+                set[i] = word + (1 << bit);
+            }
+        }
+    }
 }
 
 // An operation with its target: a read or a write is of an object, a call or a return of a function.

@@ -1,0 +1,18 @@
+-- Places in a list of numbers.
+use mathlib.Core.Path.{_≡_}
+use mathlib.Core.List.{List, [], _∷_}
+use Prim.Native.Nat.{ℕ, zero, suc, _+_, _<_}
+use native.Mathlib.Numerals.{add-one}
+use lib.ListN.{length, drop, getD, set}
+use lib.Seq.{drop-cons}
+
+pub drop-more : (l : List ℕ) (i : ℕ) → i < length l → drop i l ≡ getD l i 0 ∷ drop (i + 1) l
+drop-more l i h = rw (add-one, drop-cons l i 0)
+
+-- numbers that are all below b stay so when one below b is put among them
+pub below-after-set : (l : List ℕ) (b i v : ℕ) → ((k : ℕ) → getD l k 0 < b) → v < b → (k : ℕ) → getD (set l i v) k 0 < b
+below-after-set [] b i v below h k = below k
+below-after-set (x ∷ xs) b zero v below h zero = h
+below-after-set (x ∷ xs) b zero v below h (suc k) = below (suc k)
+below-after-set (x ∷ xs) b (suc i) v below h zero = below 0
+below-after-set (x ∷ xs) b (suc i) v below h (suc k) = below-after-set xs b i v (λ n. below (suc n)) h k

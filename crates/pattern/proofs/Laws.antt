@@ -1,0 +1,186 @@
+-- What each step of the code shows, of places in a pattern and a stack.
+use Prim.Native.Nat.{ℕ, zero, suc, _+_, _-_, _<_, _≤_}
+use native.Mathlib.Omega.{arith}
+use mathlib.Core.Path.{_≡_, refl, sym, ap, _∙_}
+use mathlib.Core.Bool.{Bool, true, false}
+use mathlib.Core.List.{List, [], _∷_, map}
+use lib.ListN.{length, drop, getD, drop-of-length-le}
+use borrow.Author.Tests.{eq-eqb, ne-eqb}
+use Rattle.paper.specs.Common.{allOf}
+use Rattle.paper.specs.Policy.{all, fn}
+use Rattle.paper.specs.Table.{elementIn}
+use Rattle.paper.specs.Match.{swallowing, firstEquals, matches, isAll}
+use Rattle.laws.proofs.Places.{drop-more}
+use Rattle.pattern.specs.Run.{here, later, FitsToAll, Says}
+use Rattle.pattern.specs.declared.Run.{Run}
+use Rattle.pattern.specs.declared.Run.the-variants.{Match, Fail, Never, All}
+use Rattle.pattern.proofs.Lists.{empty-refuses, all-takes, all-refuses, all-swallows, all-alone, all-twice, fn-refuses, fn-at-end}
+
+-- ---- the element at a place
+
+word-fn : (w : ℕ) → (w ≡ 0 → ⊥) → elementIn w ≡ fn (w - 1)
+unfolding elementIn
+word-fn zero n = absurd (n refl)
+word-fn (suc f) n = ap fn (omega arith)
+
+module _ (p : List ℕ) (i : ℕ) where
+  at-all : i < length p → getD p i 0 ≡ 0 → map elementIn (drop i p) ≡ all ∷ map elementIn (drop (i + 1) p)
+  unfolding elementIn
+  at-all h e = rw (drop-more p i h, e)
+
+  at-fn : i < length p → (getD p i 0 ≡ 0 → ⊥) → map elementIn (drop i p) ≡ fn (getD p i 0 - 1) ∷ map elementIn (drop (i + 1) p)
+  at-fn h n = rw (drop-more p i h, word-fn (getD p i 0) n)
+
+  at-end : length p ≤ i → map elementIn (drop i p) ≡ []
+  at-end h = rw (drop-of-length-le p h)
+
+-- ---- a run up to an `all`
+
+-- functions from places i and j on fit up to places a and b
+pub record Fits (p : List ℕ) (i : ℕ) (s : List ℕ) (j a b : ℕ) : Type 0 where
+  pub further : i ≤ a
+  pub inPattern : a ≤ length p
+  pub notBack : j ≤ b
+  pub inStack : b ≤ length s
+  pub decides : here p i s j ≡ here p a s b
+  pub never : later p a s b ≡ false → later p i s j ≡ false
+
+module _ (p : List ℕ) (i : ℕ) (s : List ℕ) (j : ℕ) where
+  pub fits-nothing : i ≤ length p → j ≤ length s → Fits p i s j i j
+  fits-nothing h k =
+      record { further = omega arith; inPattern = h; notBack = omega arith; inStack = k; decides = refl; never = λ e. e }
+
+  module _ (a b : ℕ) (fits : Fits p i s j a b) where
+    fits-all : a < length p → getD p a 0 ≡ 0 → later p i s j ≡ later p (a + 1) s b
+    fits-all h e = go (later p (a + 1) s b) refl
+      where
+        go : (t : Bool) → later p (a + 1) s b ≡ t → later p i s j ≡ t
+        go true k = all-takes (map elementIn (drop i p)) (drop j s) (fits .decides ∙ rw (at-all p a h e) k)
+        go false k = fits .never (rw (at-all p a h e) (all-twice (map elementIn (drop (a + 1) p)) (drop b s) k))
+
+    pub reaches-all : a < length p → getD p a 0 ≡ 0 → Says (All (a + 1) b) p i s j
+    reaches-all h e =
+        record {
+          further = omega arith;
+          inPattern = omega arith;
+          notBack = fits .notBack;
+          inStack = fits .inStack;
+          decides = fits .decides ∙ rw (at-all p a h e) refl;
+          decidesLater = fits-all h e;
+        }
+
+    pub frames-end : a < length p → (getD p a 0 ≡ 0 → ⊥) → b ≡ length s → Says Never p i s j
+    frames-end h n k =
+        let l : length s ≤ b = omega arith in
+        fits .never (rw (at-fn p a h n, drop-of-length-le s l) (fn-at-end (getD p a 0 - 1) (map elementIn (drop (a + 1) p))))
+
+    pub frame-differs : a < length p → (getD p a 0 ≡ 0 → ⊥) → (b ≡ length s → ⊥) → (getD p a 0 - 1 ≡ getD s b 0 → ⊥) → Says Fail p i s j
+    unfolding matches firstEquals
+    frame-differs h n k d =
+        let l : b < length s = omega arith in
+        fits .decides ∙ rw (at-fn p a h n, drop-more s b l, ne-eqb (getD p a 0 - 1) (getD s b 0) d)
+
+    pub frame-fits : a < length p → (getD p a 0 ≡ 0 → ⊥) → (b ≡ length s → ⊥) → getD p a 0 - 1 ≡ getD s b 0 → Fits p i s j (a + 1) (b + 1)
+    unfolding matches firstEquals
+    frame-fits h n k e =
+        let l : b < length s = omega arith in
+        record {
+          further = omega arith;
+          inPattern = omega arith;
+          notBack = omega arith;
+          inStack = omega arith;
+          decides = fits .decides ∙ rw (at-fn p a h n, drop-more s b l, eq-eqb (getD p a 0 - 1) (getD s b 0) e) refl;
+          never = λ m. fits .never (rw (at-fn p a h n, drop-more s b l) (fn-refuses (getD p a 0 - 1) (getD s b 0) (map elementIn (drop (a + 1) p)) (drop (b + 1) s) m));
+        }
+
+    pub both-end : length p ≤ a → b ≡ length s → Says Match p i s j
+    unfolding matches
+    both-end h k = let l : length s ≤ b = omega arith in fits .decides ∙ rw (at-end p a h, drop-of-length-le s l)
+
+    pub frames-left : length p ≤ a → (b ≡ length s → ⊥) → Says Fail p i s j
+    frames-left h k =
+        let l : b < length s = omega arith in
+        fits .decides ∙ rw (at-end p a h, drop-more s b l) (empty-refuses (getD s b 0) (drop (b + 1) s))
+
+-- ---- the places that a run up to an `all` leaves
+
+module _ (p : List ℕ) (i : ℕ) (s : List ℕ) (j : ℕ) (r : Run) (says : Says r p i s j) (a b : ℕ) (e : r ≡ All a b) where
+  fits-to-all : FitsToAll p i s j a b
+  fits-to-all = rw e at says
+
+  pub rest-in-pattern : a ≤ length p
+  rest-in-pattern = fits-to-all .inPattern
+
+  pub rest-in-stack : b ≤ length s
+  rest-in-stack = fits-to-all .inStack
+
+-- ---- the frames that an `all` may swallow
+
+module _ (p : List ℕ) (i : ℕ) (s : List ℕ) (j : ℕ) where
+  pub none-swallowed : later p i s j ≡ later p i s (j + 0)
+  none-swallowed = let e : j + 0 ≡ j = omega arith in rw e
+
+  pub last-all : i ≡ length p → true ≡ later p i s j
+  last-all h = let l : length p ≤ i = omega arith in sym (rw (at-end p i l) (all-alone (drop j s)))
+
+-- it has swallowed n frames in vain
+module _ (p : List ℕ) (i : ℕ) (s : List ℕ) (j n : ℕ) (vain : later p i s j ≡ later p i s (j + n)) (r : Run) (says : Says r p i s (j + n)) where
+  pub walk-matches : r ≡ Match → true ≡ later p i s j
+  walk-matches e = sym (vain ∙ all-takes (map elementIn (drop i p)) (drop (j + n) s) (rw e at says))
+
+  pub walk-never : r ≡ Never → false ≡ later p i s j
+  walk-never e = sym (vain ∙ (rw e at says))
+
+  pub walk-ends : r ≡ Fail → j + n ≡ length s → false ≡ later p i s j
+  unfolding matches swallowing
+  walk-ends e k =
+      let l : length s ≤ j + n = omega arith in
+      sym (vain ∙ rw (drop-of-length-le s l) (rw (drop-of-length-le s l) at (rw e at says)))
+
+  pub walk-on : r ≡ Fail → j + n ≤ length s → (j + n ≡ length s → ⊥) → later p i s j ≡ later p i s (j + (n + 1))
+  walk-on e h k =
+      let l : j + n < length s = omega arith in
+      let next : j + (n + 1) ≡ j + n + 1 = omega arith in
+      let fails : here p i s (j + n) ≡ false = rw e at says in
+      vain ∙ rw (next, drop-more s (j + n) l) (all-swallows (map elementIn (drop i p)) (getD s (j + n) 0) (drop (j + n + 1) s) (rw (drop-more s (j + n) l) at fails))
+
+  pub walk-falls : (a b : ℕ) → r ≡ All a b → (m : ℕ) → (length p - i) + (length s - j) ≡ m → (length p - a) + (length s - b) < m
+  walk-falls a b e m h =
+      let fits : FitsToAll p i s (j + n) a b = fits-to-all p i s (j + n) r says a b e in
+      omega arith
+
+  pub walk-all : (a b : ℕ) → r ≡ All a b → (t : Bool) → t ≡ later p a s b → t ≡ later p i s j
+  walk-all a b e t h = h ∙ sym (vain ∙ fits-to-all p i s (j + n) r says a b e .decidesLater)
+
+-- ---- a run from the front
+
+module _ (p s : List ℕ) (r : Run) (says : Says r p 0 s 0) where
+  pub front-matches : r ≡ Match → true ≡ here p 0 s 0
+  front-matches e = sym (rw e at says)
+
+  pub front-fails : r ≡ Fail → false ≡ here p 0 s 0
+  front-fails e = sym (rw e at says)
+
+  pub front-never : r ≡ Never → false ≡ here p 0 s 0
+  front-never e = sym (all-refuses (map elementIn p) s (rw e at says))
+
+  pub front-all : (a b : ℕ) → r ≡ All a b → (t : Bool) → t ≡ later p a s b → t ≡ here p 0 s 0
+  front-all a b e t h = h ∙ sym (fits-to-all p 0 s 0 r says a b e .decides)
+
+-- ---- every element is `all`
+
+abbrev pub allFrom : List ℕ → ℕ → Bool
+allFrom p i = allOf isAll (map elementIn (drop i p))
+
+module _ (p : List ℕ) (i : ℕ) (inv : allFrom p 0 ≡ allFrom p i) where
+  pub all-so-far : i < length p → getD p i 0 ≡ 0 → allFrom p 0 ≡ allFrom p (i + 1)
+  unfolding allOf isAll
+  all-so-far h e = inv ∙ rw (at-all p i h e) refl
+
+  pub not-all : i < length p → (getD p i 0 ≡ 0 → ⊥) → false ≡ allFrom p 0
+  unfolding allOf isAll
+  not-all h n = sym (inv ∙ rw (at-fn p i h n))
+
+  pub all-to-end : length p ≤ i → true ≡ allFrom p 0
+  unfolding allOf
+  all-to-end h = sym (inv ∙ rw (at-end p i h))
