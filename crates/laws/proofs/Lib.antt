@@ -1,1 +1,5 @@
 pub mod Tests
+pub mod Stretches
+pub mod Counting
+pub mod Blocks
+pub mod Bits
