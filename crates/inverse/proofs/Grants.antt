@@ -1,0 +1,75 @@
+-- A grant and its 9 words, read back both ways.
+use mathlib.Core.Path.{_≡_, refl, sym, ap, _∙_}
+use mathlib.Core.Bool.{Bool, true, false, cond, _&&_}
+use mathlib.Core.List.{List, [], _∷_, _++_, map}
+use Prim.Native.Nat.{ℕ, zero, suc, _+_, _-_, _*_, _/_, _%_, _^_, min, _<_, _≤_}
+use native.Mathlib.Nat.{zero-add, not-suc-le-zero}
+use native.Mathlib.Omega.{arith}
+use borrow.Author.Tests.{eqb-true, eqb-false, ltb-true, leb-true, eq-eqb, lt-ltb, le-leb}
+use lib.Dec.{eqb, ltb, leb}
+use lib.ListN.{length, getD, take, drop, length-take, length-drop}
+use lib.Seq.{getD-take, getD-drop, ext-getD}
+use Rattle.paper.specs.Common.{upTo, countUp}
+use Rattle.paper.specs.Policy.{Grant, every, these}
+use Rattle.paper.specs.Table.{padded, bitsWord, setWords, grantWords, isIn, grantIn, grantFits}
+use Rattle.laws.proofs.Tests.{both-true, both-left, both-right, upTo-at, upTo-all}
+use Rattle.laws.proofs.Stretches.{Stands, word-at, stands-word, stands-right, stands-more, padded-front, padded-zero, padded-stands, length-padded}
+use Rattle.laws.proofs.Counting.{length-map-counted, getD-counted}
+use Rattle.laws.proofs.Bits.{bit-written, bits-below, bits-of-word}
+use Rattle.inverse.specs.Proper.{properGrant}
+
+-- ---- a set's eight words
+
+length-set : (bs : List Bool) → length (setWords bs) ≡ 8
+unfolding setWords
+length-set bs = length-map-counted (λ j. bitsWord (take 16 (drop (16 * j) bs))) 0 8
+
+-- of word j of a set, the bits
+abbrev sixteen : ℕ → List Bool → List Bool
+sixteen j bs = take 16 (drop (16 * j) bs)
+
+set-word : (bs : List Bool) (j : ℕ) → j < 8 → getD (setWords bs) j 0 ≡ bitsWord (sixteen j bs)
+unfolding setWords
+set-word bs j h = getD-counted (λ j. bitsWord (take 16 (drop (16 * j) bs))) 0 0 8 j h ∙ rw zero-add
+
+length-sixteen : (j : ℕ) (bs : List Bool) → length (sixteen j bs) ≡ min 16 (length bs - 16 * j)
+length-sixteen j bs = length-take 16 (drop (16 * j) bs) ∙ rw length-drop
+
+sixteen-bit : (j k : ℕ) (bs : List Bool) → k < 16 → getD (sixteen j bs) k false ≡ getD bs (16 * j + k) false
+sixteen-bit j k bs h = getD-take 16 (drop (16 * j) bs) k false h ∙ getD-drop (16 * j) bs k false
+
+module _ (ws : List ℕ) (at domains : ℕ) where
+  -- the set that stands at a place
+  abbrev set-in : List Bool
+  set-in = map (isIn (drop at ws)) (countUp 0 domains)
+
+  set-bit : (j k : ℕ) → k < 16 → isIn (drop at ws) (16 * j + k) ≡ eqb (getD ws (at + j) 0 / 2 ^ k % 2) 1
+  unfolding isIn
+  set-bit j k h =
+      let p : (16 * j + k) / 16 ≡ j = omega arith in
+      let q : (16 * j + k) % 16 ≡ k = omega arith in
+      rw (p, q, getD-drop at ws j 0)
+
+  set-read : (bs : List Bool) → domains ≤ 128 → length bs ≡ domains → Stands ws at (setWords bs) → set-in ≡ bs
+  set-read bs few long s = ext-getD false set-in bs (length-map-counted (isIn (drop at ws)) 0 domains ∙ sym long) (λ d l. in-it d (rw length-map-counted at l))
+    where
+    in-it : (d : ℕ) → d < domains → getD set-in d false ≡ getD bs d false
+    in-it d h =
+        let p : 16 * (d / 16) + d % 16 ≡ d = omega arith in
+        getD-counted (isIn (drop at ws)) false 0 domains d h
+        ∙ rw (zero-add d, ← p) (set-bit (d / 16) (d % 16) (omega arith)
+        ∙ rw (s .reads (d / 16) (rw length-set (omega arith)), set-word bs (d / 16) (omega arith), bit-written (sixteen (d / 16) bs) (d % 16))
+        (sixteen-bit (d / 16) (d % 16) bs (omega arith)))
+
+  set-stands : ((j : ℕ) → j < 8 → getD ws (at + j) 0 < 2 ^ min 16 (domains - 16 * j)) → Stands ws at (setWords set-in)
+  set-stands below = record { reads = λ j h. same-word j (rw length-set at h) }
+    where
+    long : (j : ℕ) → length (sixteen j set-in) ≡ min 16 (domains - 16 * j)
+    long j = length-sixteen j set-in ∙ rw length-map-counted
+    bit : (j k : ℕ) → k < length (sixteen j set-in) → getD (sixteen j set-in) k false ≡ eqb (getD ws (at + j) 0 / 2 ^ k % 2) 1
+    bit j k h =
+        sixteen-bit j k set-in (omega (arith, long j))
+        ∙ getD-counted (isIn (drop at ws)) false 0 domains (16 * j + k) (omega (arith, long j))
+        ∙ rw zero-add (set-bit j k (omega (arith, long j)))
+    same-word : (j : ℕ) → j < 8 → getD ws (at + j) 0 ≡ getD (setWords set-in) j 0
+    same-word j h = sym (set-word set-in j h ∙ bits-of-word (sixteen j set-in) (getD ws (at + j) 0) (rw (long j) (below j h)) (bit j))
