@@ -80,6 +80,10 @@ pub length-context : (c : Context) → length (c .pattern) ≤ 16 → length (co
 unfolding contextWords
 length-context c few = omega (arith, length-padded 16 (map elementWord (c .pattern)) (rw length-map few))
 
+pub context-few : (n : ℕ) (c : Context) → properContext n c ≡ true → length (c .pattern) ≤ 16
+unfolding properContext
+context-few n c h = leb-true _ _ (search (both-left, both-right))
+
 -- what `contextFits` asks
 record Fitting (ws : List ℕ) (at : ℕ) : Type 0 where
   some : 1 ≤ getD ws at 0
@@ -120,8 +124,8 @@ module _ (ws : List ℕ) (at : ℕ) where
       (lt-ltb _ _ (f .gid)))
       (eq-eqb _ _ (f .unused)))
       (upTo-all _ 16 (λ i q. dite (decLt i (getD ws at 0))
-        (λ (l : i < getD ws at 0). rw (lt-ltb i (getD ws at 0) l) (le-leb _ _ (used i l)))
-        (λ (l : ¬ (i < getD ws at 0)). rw (le-ltb i (getD ws at 0) (omega arith)) (le-leb (getD ws (at + 4 + i) 0) 0 (omega (arith, past i (omega arith) q))))))
+      (λ (l : i < getD ws at 0). rw (lt-ltb i (getD ws at 0) l) (le-leb _ _ (used i l)))
+      (λ (l : ¬ (i < getD ws at 0)). rw (le-ltb i (getD ws at 0) (omega arith)) (le-leb (getD ws (at + 4 + i) 0) 0 (omega (arith, past i (omega arith) q))))))
 
   pub context-read : (c : Context) → at + 20 ≤ length ws → length (c .pattern) ≤ 16 → Stands ws at (contextWords c) → contextIn ws at ≡ c
   unfolding contextWords contextIn

@@ -1,2 +1,3 @@
 pub mod Contexts
 pub mod Grants
+pub mod Entries

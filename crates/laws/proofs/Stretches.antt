@@ -1,6 +1,7 @@
 -- A stretch of words that stands in a list at a place: how it is read, cut, put together and filled up with zeros.
 use mathlib.Core.Path.{_≡_, refl, sym, ap, _∙_}
 use mathlib.Core.List.{List, [], _∷_, _++_}
+use mathlib.Core.Bool.{true}
 use mathlib.Core.Logic.{dite}
 use Prim.Native.Nat.{ℕ, zero, suc, _+_, _-_, _<_, _≤_}
 use native.Mathlib.Nat.{zero-add, add-zero}
@@ -8,7 +9,9 @@ use native.Mathlib.Decide.{decLt}
 use native.Mathlib.Omega.{arith}
 use lib.ListN.{length, getD, take, drop, replicate, length-append, length-take, length-drop, length-replicate, getD-replicate, List·getD-append}
 use lib.Seq.{getD-append-add, getD-take, getD-drop, ext-getD, length-take-le}
-use Rattle.paper.specs.Table.{padded}
+use borrow.Author.Tests.{eqb-true, eq-eqb}
+use Rattle.paper.specs.Table.{padded, zeros}
+use Rattle.laws.proofs.Tests.{upTo-at, upTo-all}
 
 -- from `at` on, ws reads as xs does
 pub record Stands (ws : List ℕ) (at : ℕ) (xs : List ℕ) : Type 0 where
@@ -101,6 +104,14 @@ module _ (ws : List ℕ) where
         let m : i < n - length xs = rw length-replicate at l in
         word-at (at + (length xs + i)) (at + length xs + i) _ (omega arith) (h (length xs + i) (omega arith) (omega arith)) ∙ sym (getD-replicate (n - length xs) i 0 0 m);
   })
+
+  pub zeros-at : (at n : ℕ) → zeros ws at n ≡ true → (i : ℕ) → i < n → getD ws (at + i) 0 ≡ 0
+  unfolding zeros
+  zeros-at at n h i l = eqb-true _ _ (upTo-at _ n h i l)
+
+  pub zeros-all : (at n : ℕ) → ((i : ℕ) → i < n → getD ws (at + i) 0 ≡ 0) → zeros ws at n ≡ true
+  unfolding zeros
+  zeros-all at n h = upTo-all _ n (λ i l. eq-eqb _ _ (h i l))
 
 pub length-padded : (n : ℕ) (xs : List ℕ) → length xs ≤ n → length (padded n xs) ≡ n
 unfolding padded
