@@ -131,6 +131,14 @@ pub entry-few : (p : Policy) (e : Entry) → properEntry p e ≡ true → length
 unfolding properEntry
 entry-few p e h = context-few (length (p .functions)) (e .context) (search both-left depth 6)
 
+pub entry-descriptors : (p : Policy) (e : Entry) → properEntry p e ≡ true → allOf (properDescriptor p) (accessesOf e) ≡ true
+unfolding properEntry
+entry-descriptors p e h = search (both-left, both-right) depth 7
+
+pub entry-bound : (p : Policy) (e : Entry) → properEntry p e ≡ true → allOf (λ d. boundIn (e .context) (d .context)) (accessesOf e) ≡ true
+unfolding properEntry
+entry-bound p e h = search both-right depth 7
+
 module _ (p : Policy) (ws : List ℕ) (agree : Agree p ws) where
   -- ---- descriptor k
 

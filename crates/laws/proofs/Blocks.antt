@@ -4,12 +4,13 @@ use mathlib.Core.Bool.{Bool, true, false}
 use mathlib.Core.Logic.{⊎-elim}
 use mathlib.Core.List.{List, [], _∷_, _++_, map, flatMap}
 use Prim.Native.Nat.{ℕ, zero, suc, _+_, _*_, _/_, _%_, _<_, _≤_}
-use native.Mathlib.Nat.{not-suc-le-zero, eq-or-lt-of-le, mul-zero, mul-suc, mul-comm, div-add-mod, mod-lt, le-div-iff-mul-le, div-lt-iff-lt-mul}
+use native.Mathlib.Nat.{not-suc-le-zero, eq-or-lt-of-le, mul-zero, mul-suc, mul-comm, mul-add, div-add-mod, mod-lt, le-div-iff-mul-le, div-lt-iff-lt-mul}
 use native.Mathlib.Numerals.{add-one}
 use native.Mathlib.Omega.{arith}
 use lib.ListN.{length, getD, length-append}
 use Rattle.paper.specs.Common.{allOf, countUp}
 use Rattle.laws.proofs.Tests.{both-left, both-right}
+use Rattle.laws.proofs.Counting.{flatMap-append}
 use Rattle.laws.proofs.Stretches.{Stands, word-at, stands-left, stands-right, stands-both}
 
 pub next-block : (base size k n : ℕ) → n ≡ size → base + size * k + n ≡ base + size * (k + 1)
@@ -24,6 +25,16 @@ module _ {A : Type 0} (words : A → List ℕ) where
   length-blocks good size one (x ∷ xs) p =
       let r : length (flatMap words xs) ≡ size * length xs = length-blocks good size one xs (both-right (good x) (allOf good xs) p) in
       rw (length-append, mul-suc) (omega (arith, one x (both-left (good x) (allOf good xs) p)))
+
+  module _ (ws : List ℕ) where
+    -- the blocks of two lists
+    pub blocks-left : (at : ℕ) (xs ys : List A) → Stands ws at (flatMap words (xs ++ ys)) → Stands ws at (flatMap words xs)
+    blocks-left at xs ys s = stands-left ws at (flatMap words xs) (flatMap words ys) (rw flatMap-append at s)
+
+    pub blocks-right : (base size k : ℕ) (xs ys : List A) → length (flatMap words xs) ≡ size * length xs → Stands ws (base + size * k) (flatMap words (xs ++ ys))
+        → Stands ws (base + size * (k + length xs)) (flatMap words ys)
+    blocks-right base size k xs ys e s =
+        stands-right ws (base + size * k) (base + size * (k + length xs)) (flatMap words xs) (flatMap words ys) (rw (e, mul-add size k (length xs)) (omega arith)) (rw flatMap-append at s)
 
   module _ (ws : List ℕ) (base size : ℕ) (back : ℕ → A) where
     -- the blocks that `back` counts up stand there if each does, and the other way round

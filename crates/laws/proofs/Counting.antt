@@ -108,6 +108,13 @@ unfolding flatMap
 flatMap-flatMap f g [] = refl
 flatMap-flatMap {C} f g (x ∷ xs) = ap (λ (l : List C). flatMap f (g x) ++ l) (flatMap-flatMap f g xs) ∙ sym (flatMap-append f (g x) (flatMap g xs))
 
+-- a test at every element of the lists is a test at every element of all of them together
+pub allOf-flatMap : {A B : Type 0} (test : B → Bool) (f : A → List B) (xs : List A) → allOf (λ x. allOf test (f x)) xs ≡ true → allOf test (flatMap f xs) ≡ true
+unfolding flatMap allOf
+allOf-flatMap test f [] h = refl
+allOf-flatMap test f (x ∷ xs) h =
+    allOf-append test (f x) (flatMap f xs) (both-left (allOf test (f x)) (allOf (λ x. allOf test (f x)) xs) h) (allOf-flatMap test f xs (both-right (allOf test (f x)) (allOf (λ x. allOf test (f x)) xs) h))
+
 counted-one : (k : ℕ) → countUp k 1 ≡ k ∷ []
 unfolding countUp
 counted-one k = refl

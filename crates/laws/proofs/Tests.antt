@@ -1,14 +1,15 @@
 -- Laws of `_&&_` and of the paper's tests over numbers and lists.
 use mathlib.Core.Path.{_≡_, refl, sym, ap, _∙_}
-use mathlib.Core.Bool.{Bool, true, false, _&&_}
-use mathlib.Core.Logic.{⊎-elim}
+use mathlib.Core.Bool.{Bool, true, false, cond, _&&_}
+use mathlib.Core.Logic.{⊎-elim, dite}
 use mathlib.Core.List.{List, [], _∷_}
 use Prim.Native.Nat.{ℕ, zero, suc, _+_, _<_, _≤_}
 use native.Mathlib.Nat.{le-of-suc-le-suc, not-suc-le-zero, eq-or-lt-of-le}
 use native.Mathlib.Numerals.{add-one}
+use native.Mathlib.Decide.{decLt}
 use native.Mathlib.Omega.{arith}
-use lib.Dec.{eqb}
-use borrow.Author.Tests.{eqb-true, eq-eqb}
+use lib.Dec.{eqb, ltb}
+use borrow.Author.Tests.{eqb-true, eq-eqb, lt-ltb, le-ltb}
 use Rattle.paper.specs.Common.{upTo, same}
 
 pub both-true : (a b : Bool) → a ≡ true → b ≡ true → (a && b) ≡ true
@@ -89,3 +90,23 @@ same-equal (b ∷ bs) (c ∷ cs) h =
     let p : b ≡ c = eqb-true b c (both-left (eqb b c) (same bs cs) h) in
     let q : bs ≡ cs = same-equal bs cs (both-right (eqb b c) (same bs cs) h) in
     cc
+
+-- ---- one test below n, another from n on
+
+module _ (f g : ℕ → Bool) (n m : ℕ) where
+  pub upTo-first : upTo (λ k. cond (ltb k n) (f k) (g k)) m ≡ true → (k : ℕ) → k < n → k < m → f k ≡ true
+  upTo-first h k p q = rw (lt-ltb k n p) at (upTo-at (λ k. cond (ltb k n) (f k) (g k)) m h k q)
+
+  pub upTo-rest : upTo (λ k. cond (ltb k n) (f k) (g k)) m ≡ true → (k : ℕ) → n ≤ k → k < m → g k ≡ true
+  upTo-rest h k p q = rw (le-ltb k n p) at (upTo-at (λ k. cond (ltb k n) (f k) (g k)) m h k q)
+
+  pub upTo-both : ((k : ℕ) → k < n → k < m → f k ≡ true) → ((k : ℕ) → n ≤ k → k < m → g k ≡ true) → upTo (λ k. cond (ltb k n) (f k) (g k)) m ≡ true
+  upTo-both p q = upTo-all (λ k. cond (ltb k n) (f k) (g k)) m (λ k l. dite (decLt k n)
+      (λ (a : k < n). rw (lt-ltb k n a) (p k a l))
+      (λ (a : ¬ (k < n)). rw (le-ltb k n (omega arith)) (q k (omega arith) l)))
+
+-- two tests that pass together are one
+pub same-test : (a b : Bool) → (a ≡ true → b ≡ true) → (b ≡ true → a ≡ true) → a ≡ b
+same-test true b p q = sym (p refl)
+same-test false true p q = q refl
+same-test false false p q = refl
