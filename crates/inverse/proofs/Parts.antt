@@ -15,7 +15,7 @@ use Rattle.laws.proofs.Tests.{both-true, both-left, both-right}
 use Rattle.laws.proofs.Stretches.{Stands, word-at, stands-word, stands-left, stands-right, stands-both, stands-more, padded-front, padded-zero, padded-stands, length-padded}
 use Rattle.laws.proofs.Counting.{allOf-weaker, allOf-flatMap, flatMap-flatMap}
 use Rattle.laws.proofs.Blocks.{length-blocks}
-use Rattle.inverse.specs.Proper.{properDescriptor, properEntry, properCounts, proper, accessesOf, descriptorsOf, noTwo, onePrincipal}
+use Rattle.inverse.specs.Proper.{properDescriptor, properEntry, properCounts, proper, accessesOf, descriptorsOf, noTwo, sharePrincipal}
 use Rattle.inverse.proofs.Entries.{Agree, descriptor-few, entry-few, entry-descriptors, length-descriptor, length-entry}
 
 -- what `proper` asks
@@ -29,7 +29,7 @@ pub record Proper (p : Policy) : Type 0 where
   pub objectsBelow : allOf (λ d. ltb d (p .objectDomains)) (p .objects) ≡ true
   pub functionsBelow : allOf (λ d. ltb d (p .subjectDomains)) (p .functions) ≡ true
   pub each : allOf (properEntry p) (p .entries) ≡ true
-  pub apart : noTwo onePrincipal (p .entries) ≡ true
+  pub apart : noTwo sharePrincipal (p .entries) ≡ true
 
 pub proper-is : (p : Policy) → proper p ≡ true → Proper p
 unfolding proper properCounts

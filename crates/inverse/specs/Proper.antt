@@ -54,8 +54,8 @@ noTwo alike (x ∷ xs) = allOf (λ y. not (alike x y)) xs && noTwo alike xs
 unfoldable pub principalOf : Entry → List ℕ
 principalOf e = e .subject ∷ sortNumber (e .context .uid) ∷ sortNumber (e .context .gid) ∷ map elementWord (e .context .pattern)
 
-unfoldable pub onePrincipal : Entry → Entry → Bool
-onePrincipal a b = same (principalOf a) (principalOf b)
+unfoldable pub sharePrincipal : Entry → Entry → Bool
+sharePrincipal a b = same (principalOf a) (principalOf b)
 
 -- ---- entries, and the whole
 
@@ -94,4 +94,4 @@ proper p =
     && allOf (λ d. ltb d (p .objectDomains)) (p .objects)
     && allOf (λ d. ltb d (p .subjectDomains)) (p .functions)
     && allOf (properEntry p) (p .entries)
-    && noTwo onePrincipal (p .entries)
+    && noTwo sharePrincipal (p .entries)
