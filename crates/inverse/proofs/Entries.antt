@@ -139,6 +139,10 @@ pub entry-bound : (p : Policy) (e : Entry) → properEntry p e ≡ true → allO
 unfolding properEntry
 entry-bound p e h = search both-right depth 7
 
+pub entry-context : (ws : List ℕ) (at : ℕ) → entryFits ws at ≡ true → contextFits ws at ≡ true
+unfolding entryFits
+entry-context ws at h = search both-left depth 7
+
 module _ (p : Policy) (ws : List ℕ) (agree : Agree p ws) where
   -- ---- descriptor k
 

@@ -6,3 +6,4 @@ pub mod Reading
 pub mod Formed
 pub mod Principals
 pub mod Accesses
+pub mod Inverse

@@ -82,7 +82,7 @@ pub record Parts (ws : List ℕ) (p : Policy) : Type 0 where
   pub descriptors : Stands ws 7712 (padded 8672 (flatMap descriptorWords (descriptorsOf p)))
 
 module _ (p : Policy) (good : Proper p) where
-  all-descriptors : allOf (properDescriptor p) (descriptorsOf p) ≡ true
+  pub all-descriptors : allOf (properDescriptor p) (descriptorsOf p) ≡ true
   unfolding descriptorsOf
   all-descriptors = allOf-flatMap _ accessesOf (p .entries) (allOf-weaker (properEntry p) _ (entry-descriptors p) (p .entries) (good .each))
 
