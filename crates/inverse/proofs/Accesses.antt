@@ -1,19 +1,18 @@
 -- The descriptors of an entry, of all entries, and "object variables bound as 10 asks".
-use mathlib.Core.Path.{_≡_, refl, sym, ap, _∙_}
-use mathlib.Core.Bool.{Bool, true, false, not, _&&_, _||_}
-use mathlib.Core.List.{List, [], _∷_, _++_, map, flatMap, map-append}
-use Prim.Native.Nat.{ℕ, zero, suc, _+_, _-_, _*_, _<_, _≤_}
+use mathlib.Core.Path.{_≡_, refl, _∙_}
+use mathlib.Core.Bool.{Bool, true}
+use mathlib.Core.List.{List, map, flatMap, map-append}
+use Prim.Native.Nat.{ℕ, zero, suc, _+_, _-_, _<_, _≤_}
 use native.Mathlib.Nat.{not-suc-le-zero, eq-or-lt-of-le}
 use mathlib.Core.Logic.{⊎-elim}
 use native.Mathlib.Omega.{arith}
 use lib.Dec.{eqb, eqb·suc-suc, eqb·suc-zero}
-use lib.ListN.{length, getD}
-use Rattle.paper.specs.Common.{upTo, countUp, allOf}
-use Rattle.paper.specs.Policy.{Context, Descriptor, Entry}
-use Rattle.paper.specs.Table.{entryAt, descriptorAt, sortIn, entryCount, descriptorCount, readCount, writeCount, firstDescriptor, contextIn, descriptorIn, entryIn, boundBy, variablesBound}
+use lib.ListN.{getD}
+use Rattle.paper.specs.Common.{countUp, allOf}
+use Rattle.paper.specs.Table.{entryAt, descriptorAt, sortIn, entryCount, descriptorCount, readCount, writeCount, firstDescriptor, contextIn, descriptorIn, entryIn, policyIn, boundBy, variablesBound}
 use Rattle.laws.proofs.Tests.{upTo-at, upTo-all}
 use Rattle.laws.proofs.Counting.{counted-append, counted-runs, allOf-counted, counted-allOf}
-use Rattle.inverse.specs.Proper.{isBinding, boundIn, accessesOf}
+use Rattle.inverse.specs.Proper.{isBinding, boundIn, accessesOf, descriptorsOf}
 
 binding : (w : ℕ) → eqb w 1 ≡ isBinding (sortIn w)
 unfolding isBinding sortIn
@@ -48,8 +47,13 @@ module _ (ws : List ℕ) where
       (λ (l : suc k < suc n). omega (arith, first-below n k (omega arith), first-more n))
       (eq-or-lt-of-le h)
 
-  pub all-accesses : (n : ℕ) → flatMap accessesOf (map (entryIn ws) (countUp 0 n)) ≡ map (descriptorIn ws) (countUp 0 (firstDescriptor ws n))
+  all-accesses : (n : ℕ) → flatMap accessesOf (map (entryIn ws) (countUp 0 n)) ≡ map (descriptorIn ws) (countUp 0 (firstDescriptor ws n))
   all-accesses n = counted-runs (entryIn ws) accessesOf (descriptorIn ws) (firstDescriptor ws) (λ k. readCount ws k + writeCount ws k) first-none first-more accesses n
+
+  -- all descriptors of the policy in a table, in order
+  pub descriptors-in : descriptorsOf (policyIn ws) ≡ map (descriptorIn ws) (countUp 0 (descriptorCount ws))
+  unfolding descriptorsOf policyIn
+  descriptors-in = all-accesses (entryCount ws)
 
   -- ---- an entry's descriptors are bound by it
 

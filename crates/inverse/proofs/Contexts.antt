@@ -1,16 +1,16 @@
 -- A context and its 20 words, read back both ways.
 use mathlib.Core.Path.{_≡_, refl, sym, ap, _∙_}
-use mathlib.Core.Bool.{Bool, true, false, cond, _&&_}
-use mathlib.Core.List.{List, [], _∷_, _++_, map, map-map, map-id}
+use mathlib.Core.Bool.{true, cond}
+use mathlib.Core.List.{List, [], _∷_, map}
 use mathlib.Core.Logic.{dite}
 use Prim.Native.Nat.{ℕ, zero, suc, _+_, _<_, _≤_}
 use native.Mathlib.Decide.{decLt}
 use native.Mathlib.Numerals.{add-one}
 use native.Mathlib.Omega.{arith}
 use borrow.Author.Tests.{eqb-true, ltb-true, leb-true, eq-eqb, lt-ltb, le-ltb, le-leb}
-use lib.Dec.{eqb, ltb, leb, leb·zero}
+use lib.Dec.{ltb, leb, leb·zero}
 use lib.ListN.{length, getD, take, drop, length-map, List·getD-map}
-use Rattle.paper.specs.Common.{within, upTo, allOf}
+use Rattle.paper.specs.Common.{allOf}
 use Rattle.paper.specs.Scalars.{Sort, anyone, variable, root, user}
 use Rattle.paper.specs.Rules.{sortNumber}
 use Rattle.paper.specs.Policy.{Element, all, fn, Context}

@@ -1,15 +1,15 @@
 -- An entry and its 44 words, a descriptor and its 32, read back both ways.
-use mathlib.Core.Path.{_≡_, refl, sym, ap, _∙_}
-use mathlib.Core.Bool.{Bool, true, false, _&&_}
+use mathlib.Core.Path.{_≡_, refl, sym, ap}
+use mathlib.Core.Bool.{true}
 use mathlib.Core.List.{List, [], _∷_, _++_, map}
-use Prim.Native.Nat.{ℕ, zero, suc, _+_, _-_, _*_, _<_, _≤_}
+use Prim.Native.Nat.{ℕ, _+_, _-_, _<_, _≤_}
 use native.Mathlib.Omega.{arith}
-use borrow.Author.Tests.{eqb-true, ltb-true, eq-eqb, lt-ltb}
-use lib.Dec.{eqb, ltb}
+use borrow.Author.Tests.{eqb-true, eq-eqb}
+use lib.Dec.{ltb}
 use lib.ListN.{length, getD, length-append}
 use Rattle.paper.specs.Common.{allOf, countUp}
-use Rattle.paper.specs.Policy.{Context, Grant, Descriptor, Entry, Policy}
-use Rattle.paper.specs.Table.{entryAt, descriptorAt, padded, contextWords, grantWords, entryWords, descriptorWords, objectDomainCount, subjectDomainCount, functionCount, readCount, writeCount, firstDescriptor, contextIn, grantIn, entryIn, descriptorIn, zeros, contextFits, grantFits, entryFits, descriptorFits}
+use Rattle.paper.specs.Policy.{Descriptor, Entry, Policy}
+use Rattle.paper.specs.Table.{entryAt, descriptorAt, contextWords, grantWords, entryWords, descriptorWords, objectDomainCount, subjectDomainCount, functionCount, readCount, writeCount, firstDescriptor, contextIn, grantIn, entryIn, descriptorIn, contextFits, entryFits, descriptorFits}
 use Rattle.laws.proofs.Tests.{both-true, both-left, both-right}
 use Rattle.laws.proofs.Stretches.{Stands, word-at, stands-word, stands-left, stands-right, stands-both, stands-more, padded-front, padded-zero, padded-stands, length-padded, zeros-at, zeros-all}
 use Rattle.laws.proofs.Counting.{length-map-counted}

@@ -1,11 +1,11 @@
 -- What `wellFormed` asks, fact by fact.
-use mathlib.Core.Path.{_≡_, refl, sym, ap, _∙_}
-use mathlib.Core.Bool.{Bool, true, false, cond, _&&_}
-use mathlib.Core.List.{List, [], _∷_}
-use Prim.Native.Nat.{ℕ, zero, suc, _+_, _<_, _≤_}
+use mathlib.Core.Path.{_≡_}
+use mathlib.Core.Bool.{true, cond}
+use mathlib.Core.List.{List}
+use Prim.Native.Nat.{ℕ, _+_, _<_, _≤_}
 use native.Mathlib.Omega.{arith}
 use borrow.Author.Tests.{eqb-true, leb-true, eq-eqb, le-leb}
-use lib.Dec.{eqb, ltb, leb}
+use lib.Dec.{eqb, ltb}
 use lib.ListN.{length, getD, take, drop}
 use Rattle.paper.specs.Common.{upTo, allOf}
 use Rattle.paper.specs.Table.{mark, entryAt, descriptorAt, padded, objectDomainCount, subjectDomainCount, objectCount, functionCount, entryCount, descriptorCount, zeros, countsFit, membersFit, entryFits, descriptorFits, entriesFit, descriptorsFit, principalsDiffer, variablesBound, wellFormed}

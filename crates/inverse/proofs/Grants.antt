@@ -1,20 +1,20 @@
 -- A grant and its 9 words, read back both ways.
-use mathlib.Core.Path.{_≡_, refl, sym, ap, _∙_}
-use mathlib.Core.Bool.{Bool, true, false, cond, _&&_}
-use mathlib.Core.List.{List, [], _∷_, _++_, map}
+use mathlib.Core.Path.{_≡_, refl, sym, _∙_}
+use mathlib.Core.Bool.{Bool, true, false, cond}
+use mathlib.Core.List.{List, [], _∷_, map}
 use mathlib.Core.Logic.{dite}
-use Prim.Native.Nat.{ℕ, zero, suc, _+_, _-_, _*_, _/_, _%_, _^_, min, _<_, _≤_}
+use Prim.Native.Nat.{ℕ, _+_, _-_, _*_, _/_, _%_, _^_, min, _<_, _≤_}
 use native.Mathlib.Nat.{zero-add, not-suc-le-zero}
 use native.Mathlib.Decide.{ℕ-discrete}
 use native.Mathlib.Omega.{arith}
-use borrow.Author.Tests.{eqb-true, eqb-false, ltb-true, leb-true, eq-eqb, ne-eqb, lt-ltb, le-leb}
-use lib.Dec.{eqb, ltb, leb}
+use borrow.Author.Tests.{eqb-true, ltb-true, leb-true, eq-eqb, ne-eqb, lt-ltb}
+use lib.Dec.{eqb, ltb}
 use lib.ListN.{length, getD, take, drop, length-take, length-drop}
 use lib.Seq.{getD-take, getD-drop, ext-getD}
-use Rattle.paper.specs.Common.{upTo, countUp}
+use Rattle.paper.specs.Common.{countUp}
 use Rattle.paper.specs.Policy.{Grant, every, these}
 use Rattle.paper.specs.Table.{padded, bitsWord, setWords, grantWords, isIn, grantIn, grantFits}
-use Rattle.laws.proofs.Tests.{both-true, both-left, both-right, upTo-at, upTo-all}
+use Rattle.laws.proofs.Tests.{both-left, both-right, upTo-at, upTo-all}
 use Rattle.laws.proofs.Stretches.{Stands, word-at, stands-word, stands-right, stands-more, padded-front, padded-zero, padded-stands, length-padded}
 use Rattle.laws.proofs.Counting.{length-map-counted, getD-counted}
 use Rattle.laws.proofs.Bits.{bit-written, bits-below, bits-of-word}

@@ -6,4 +6,6 @@ pub mod Reading
 pub mod Formed
 pub mod Principals
 pub mod Accesses
+pub mod Held
+pub mod Forming
 pub mod Inverse

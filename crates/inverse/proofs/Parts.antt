@@ -1,18 +1,18 @@
 -- The five blocks of a table, and a policy's own sizes.
-use mathlib.Core.Path.{_≡_, refl, sym, ap, _∙_}
-use mathlib.Core.Bool.{Bool, true, false, _&&_}
+use mathlib.Core.Path.{_≡_, refl}
+use mathlib.Core.Bool.{true}
 use mathlib.Core.List.{List, [], _∷_, _++_, flatMap}
-use Prim.Native.Nat.{ℕ, zero, suc, _+_, _-_, _*_, _<_, _≤_}
+use Prim.Native.Nat.{ℕ, _+_, _-_, _*_, _<_, _≤_}
 use native.Mathlib.Nat.{not-suc-le-zero}
 use native.Mathlib.Omega.{arith}
 use borrow.Author.Tests.{leb-true, le-leb}
-use lib.Dec.{ltb, leb}
+use lib.Dec.{ltb}
 use lib.ListN.{length, getD, length-append}
 use Rattle.paper.specs.Common.{allOf}
-use Rattle.paper.specs.Policy.{Descriptor, Entry, Policy}
+use Rattle.paper.specs.Policy.{Policy}
 use Rattle.paper.specs.Table.{mark, padded, entryWords, descriptorWords, wordsOf}
 use Rattle.laws.proofs.Tests.{both-true, both-left, both-right}
-use Rattle.laws.proofs.Stretches.{Stands, word-at, stands-word, stands-left, stands-right, stands-both, stands-more, padded-front, padded-zero, padded-stands, length-padded}
+use Rattle.laws.proofs.Stretches.{Stands, word-at, stands-left, stands-right, stands-both, stands-more, padded-front, padded-zero, padded-stands, length-padded}
 use Rattle.laws.proofs.Counting.{allOf-weaker, allOf-flatMap, flatMap-flatMap}
 use Rattle.laws.proofs.Blocks.{length-blocks}
 use Rattle.inverse.specs.Proper.{properDescriptor, properEntry, properCounts, proper, accessesOf, descriptorsOf, noTwo, sharePrincipal}

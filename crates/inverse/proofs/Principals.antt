@@ -1,18 +1,18 @@
 -- "no two entries with one principal", in a table and in the policy in it.
-use mathlib.Core.Path.{_≡_, refl, sym, ap, _∙_}
-use mathlib.Core.Bool.{Bool, true, false, not, _&&_}
+use mathlib.Core.Path.{_≡_, refl, sym, _∙_}
+use mathlib.Core.Bool.{Bool, true, not}
 use mathlib.Core.Logic.{⊎-elim}
 use mathlib.Core.List.{List, [], _∷_, _++_, map}
-use Prim.Native.Nat.{ℕ, zero, suc, _+_, _*_, _<_, _≤_}
+use Prim.Native.Nat.{ℕ, zero, suc, _+_, _<_, _≤_}
 use native.Mathlib.Nat.{eq-or-lt-of-le, not-suc-le-zero}
 use native.Mathlib.Omega.{arith}
 use lib.ListN.{length, getD, take, drop, length-append, length-map}
-use Rattle.paper.specs.Common.{upTo, countUp, allOf, same}
+use Rattle.paper.specs.Common.{upTo, countUp}
 use Rattle.paper.specs.Rules.{sortNumber}
-use Rattle.paper.specs.Policy.{Context, Entry}
-use Rattle.paper.specs.Table.{entryAt, padded, elementWord, contextWords, entryCount, contextIn, entryIn, contextFits, onePrincipal, principalsDiffer}
+use Rattle.paper.specs.Policy.{Context}
+use Rattle.paper.specs.Table.{entryAt, elementWord, contextWords, entryCount, contextIn, entryIn, contextFits, onePrincipal, principalsDiffer}
 use Rattle.laws.proofs.Tests.{both-true, both-left, both-right, upTo-at, upTo-all, same-refl, same-equal, same-test}
-use Rattle.laws.proofs.Stretches.{Stands, stands-both, stands-more, taken-stretch, taken-same}
+use Rattle.laws.proofs.Stretches.{stands-both, stands-more, taken-stretch, taken-same}
 use Rattle.laws.proofs.Counting.{allOf-counted, counted-allOf}
 use Rattle.inverse.specs.Proper.{noTwo, principalOf, sharePrincipal}
 use Rattle.inverse.proofs.Contexts.{length-context, context-few, context-read, context-stands, context-proper}

@@ -1,21 +1,21 @@
 -- A policy is read back from its words.
-use mathlib.Core.Path.{_≡_, refl, sym, ap, _∙_}
-use mathlib.Core.Bool.{Bool, true, false, _&&_}
-use mathlib.Core.List.{List, [], _∷_, _++_, map, flatMap}
-use Prim.Native.Nat.{ℕ, zero, suc, _+_, _*_, _<_, _≤_}
+use mathlib.Core.Path.{_≡_, refl}
+use mathlib.Core.Bool.{true}
+use mathlib.Core.List.{List, _∷_, _++_, map, flatMap}
+use Prim.Native.Nat.{ℕ, _+_, _*_, _≤_}
 use native.Mathlib.Numerals.{add-one}
 use native.Mathlib.Omega.{arith}
-use lib.ListN.{length, getD, take, drop, length-append}
+use lib.ListN.{length, length-append}
 use Rattle.paper.specs.Common.{allOf, countUp}
 use Rattle.paper.specs.Policy.{Descriptor, Entry, Policy}
-use Rattle.paper.specs.Table.{entryAt, descriptorAt, padded, entryWords, descriptorWords, wordsOf, firstDescriptor, readCount, writeCount, descriptorIn, entryIn, policyIn}
+use Rattle.paper.specs.Table.{entryAt, descriptorAt, entryWords, descriptorWords, firstDescriptor, descriptorIn, entryIn, policyIn}
 use Rattle.laws.proofs.Tests.{both-left, both-right}
-use Rattle.laws.proofs.Stretches.{Stands, stands-front, stands-left, stands-right, taken-stretch, padded-front}
+use Rattle.laws.proofs.Stretches.{Stands, stands-left, stands-right, taken-stretch, padded-front}
 use Rattle.laws.proofs.Counting.{allOf-append-left, allOf-append-right, counted-list}
 use Rattle.laws.proofs.Blocks.{next-block, length-blocks, blocks-left, blocks-right}
-use Rattle.inverse.specs.Proper.{proper, properDescriptor, properEntry, accessesOf, descriptorsOf}
-use Rattle.inverse.proofs.Entries.{Agree, EntryParts, descriptor-few, entry-few, entry-descriptors, length-descriptor, length-entry, entry-parts, descriptor-read, entry-read}
-use Rattle.inverse.proofs.Parts.{Proper, proper-is, Parts, table-parts, parts-agree, length-words}
+use Rattle.inverse.specs.Proper.{properDescriptor, properEntry, accessesOf, descriptorsOf}
+use Rattle.inverse.proofs.Entries.{EntryParts, descriptor-few, entry-few, entry-descriptors, length-descriptor, length-entry, entry-parts, descriptor-read, entry-read}
+use Rattle.inverse.proofs.Parts.{Proper, Parts, parts-agree}
 
 module _ (p : Policy) (good : Proper p) (ws : List ℕ) (long : 16384 ≤ length ws) (parts : Parts ws p) where
   -- ---- descriptors from number k on
@@ -111,14 +111,3 @@ module _ (p : Policy) (good : Proper p) (ws : List ℕ) (long : 16384 ≤ length
         taken-stretch ws 32 (length (p .objects)) (p .objects) refl (omega (arith, good .objects)) (padded-front ws 32 1024 _ (parts .objects)),
         taken-stretch ws 1056 (length (p .functions)) (p .functions) refl (omega (arith, good .functions)) (padded-front ws 1056 1024 _ (parts .functions)),
       )
-
-module _ (p : Policy) (good : proper p ≡ true) where
-  pub words-long : (rest : List ℕ) → 16384 ≤ length (wordsOf p ++ rest)
-  words-long rest = rw (length-append, length-words p (proper-is p good)) (omega arith)
-
-  pub words-parts : (rest : List ℕ) → Parts (wordsOf p ++ rest) p
-  words-parts rest = table-parts p (proper-is p good) (wordsOf p ++ rest) (stands-front (wordsOf p) rest)
-
-  -- the policy of a policy's words, whatever follows them
-  pub policy-of-words : (rest : List ℕ) → policyIn (wordsOf p ++ rest) ≡ p
-  policy-of-words rest = policy-read p (proper-is p good) (wordsOf p ++ rest) (words-long rest) (words-parts rest)

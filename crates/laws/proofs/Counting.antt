@@ -1,7 +1,7 @@
 -- Lists that are counted up: `map f (countUp k n)` is f at each of n numbers from k on.
 use mathlib.Core.Path.{_≡_, refl, sym, ap, _∙_}
-use mathlib.Core.Bool.{Bool, true, false, _&&_}
-use mathlib.Core.Logic.{dite, ⊎-elim}
+use mathlib.Core.Bool.{Bool, true}
+use mathlib.Core.Logic.{⊎-elim}
 use mathlib.Core.List.{List, [], _∷_, _++_, map, flatMap, append-nil, append-assoc, map-append}
 use Prim.Native.Nat.{ℕ, zero, suc, _+_, _<_, _≤_}
 use native.Mathlib.Nat.{zero-add, add-zero, suc-add, not-suc-le-zero, eq-or-lt-of-le}
