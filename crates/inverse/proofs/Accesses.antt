@@ -12,7 +12,7 @@ use Rattle.paper.specs.Common.{countUp, allOf}
 use Rattle.paper.specs.Table.{entryAt, descriptorAt, sortIn, entryCount, descriptorCount, readCount, writeCount, firstDescriptor, contextIn, descriptorIn, entryIn, policyIn, boundBy, variablesBound}
 use Rattle.laws.proofs.Tests.{upTo-at, upTo-all}
 use Rattle.laws.proofs.Counting.{counted-append, counted-runs, allOf-counted, counted-allOf}
-use Rattle.inverse.specs.Proper.{isBinding, boundIn, accessesOf, descriptorsOf}
+use Rattle.inverse.specs.Proper.{isBinding, boundIn, accessesOf, allDescriptors}
 
 binding : (w : ℕ) → eqb w 1 ≡ isBinding (sortIn w)
 unfolding isBinding sortIn
@@ -51,8 +51,8 @@ module _ (ws : List ℕ) where
   all-accesses n = counted-runs (entryIn ws) accessesOf (descriptorIn ws) (firstDescriptor ws) (λ k. readCount ws k + writeCount ws k) first-none first-more accesses n
 
   -- all descriptors of the policy in a table, in order
-  pub descriptors-in : descriptorsOf (policyIn ws) ≡ map (descriptorIn ws) (countUp 0 (descriptorCount ws))
-  unfolding descriptorsOf policyIn
+  pub descriptors-in : allDescriptors (policyIn ws) ≡ map (descriptorIn ws) (countUp 0 (descriptorCount ws))
+  unfolding allDescriptors policyIn
   descriptors-in = all-accesses (entryCount ws)
 
   -- ---- an entry's descriptors are bound by it

@@ -9,7 +9,7 @@ use Rattle.paper.specs.Table.{entryAt, descriptorAt, entryWords, descriptorWord
 use Rattle.laws.proofs.Stretches.{word-at, padded-front, padded-zero}
 use Rattle.laws.proofs.Counting.{length-map-counted, allOf-counted}
 use Rattle.laws.proofs.Blocks.{block-stands}
-use Rattle.inverse.specs.Proper.{properDescriptor, properEntry, descriptorsOf}
+use Rattle.inverse.specs.Proper.{properDescriptor, properEntry, allDescriptors}
 use Rattle.inverse.proofs.Entries.{Agree, descriptor-few, entry-few, length-descriptor, length-entry, descriptor-fits, entry-fits, entry-context, entry-bound}
 use Rattle.inverse.proofs.Parts.{Proper, Parts, parts-agree, length-entries, length-descriptors, all-descriptors}
 use Rattle.inverse.proofs.Formed.{Formed, members-fit}
@@ -23,7 +23,7 @@ module _ (ws : List ℕ) (long : 16384 ≤ length ws) (good : Proper (policyIn w
   counted-entries : entryCount ws ≤ 128
   counted-entries = omega (arith, parts .entryCount, good .entries)
 
-  counted-descriptors : descriptorCount ws ≡ length (descriptorsOf (policyIn ws))
+  counted-descriptors : descriptorCount ws ≡ length (allDescriptors (policyIn ws))
   counted-descriptors = rw (descriptors-in ws) (sym (length-map-counted (descriptorIn ws) 0 (descriptorCount ws)))
 
   some-entry : (k : ℕ) → k < entryCount ws → properEntry (policyIn ws) (entryIn ws k) ≡ true

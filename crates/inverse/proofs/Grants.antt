@@ -4,7 +4,7 @@ use mathlib.Core.Bool.{Bool, true, false, cond}
 use mathlib.Core.List.{List, [], _∷_, map}
 use mathlib.Core.Logic.{dite}
 use Prim.Native.Nat.{ℕ, _+_, _-_, _*_, _/_, _%_, _^_, min, _<_, _≤_}
-use native.Mathlib.Nat.{zero-add, not-suc-le-zero}
+use native.Mathlib.Nat.{zero-add}
 use native.Mathlib.Decide.{ℕ-discrete}
 use native.Mathlib.Omega.{arith}
 use borrow.Author.Tests.{eqb-true, ltb-true, leb-true, eq-eqb, ne-eqb, lt-ltb}
@@ -13,9 +13,9 @@ use lib.ListN.{length, getD, take, drop, length-take, length-drop}
 use lib.Seq.{getD-take, getD-drop, ext-getD}
 use Rattle.paper.specs.Common.{countUp}
 use Rattle.paper.specs.Policy.{Grant, every, these}
-use Rattle.paper.specs.Table.{padded, bitsWord, setWords, grantWords, isIn, grantIn, grantFits}
+use Rattle.paper.specs.Table.{bitsWord, setWords, grantWords, isIn, grantIn, grantFits}
 use Rattle.laws.proofs.Tests.{both-left, both-right, upTo-at, upTo-all}
-use Rattle.laws.proofs.Stretches.{Stands, word-at, stands-word, stands-right, stands-more, padded-front, padded-zero, padded-stands, length-padded}
+use Rattle.laws.proofs.Stretches.{Stands, word-at, stands-none, stands-word, stands-right, stands-more, padded-front, padded-zero, padded-stands, length-padded}
 use Rattle.laws.proofs.Counting.{length-map-counted, getD-counted}
 use Rattle.laws.proofs.Bits.{bit-written, bits-below, bits-of-word}
 use Rattle.inverse.specs.Proper.{properGrant}
@@ -117,26 +117,37 @@ module _ (ws : List ℕ) (at domains : ℕ) where
       (λ w. rw (grant-every w))
       (λ w. rw (grant-these w) (eq-eqb _ _ (length-map-counted (isIn (drop (at + 1) ws)) 0 domains)))
 
+  -- `every`: the mark, and eight zeros
+  every-stands : getD ws at 0 ≡ 1 → ((j : ℕ) → j < 8 → getD ws (at + 1 + j) 0 ≡ 0) → Stands ws at (grantWords every)
+  unfolding grantWords
+  every-stands w zero =
+      padded-stands ws at 9 (1 ∷ []) (stands-more ws at (at + 1) 1 [] refl w (stands-none ws (at + 1)))
+      (λ i p q. word-at ws (at + 1 + (i - 1)) (at + i) 0 (omega arith) (zero (i - 1) (omega arith)))
+
+  every-zero : Stands ws at (grantWords every) → (j : ℕ) → j < 8 → getD ws (at + 1 + j) 0 ≡ 0
+  unfolding grantWords
+  every-zero s j l = word-at ws (at + (1 + j)) (at + 1 + j) 0 (omega arith) (padded-zero ws at 9 (1 ∷ []) s (1 + j) (omega arith) (omega arith))
+
   pub grant-stands : grantFits ws at domains ≡ true → Stands ws at (grantWords (grantIn ws at domains))
   unfolding grantFits grantWords
   grant-stands h =
       let mark : getD ws at 0 ≤ 1 = leb-true _ _ (search both-left) in
-      let below : (j : ℕ) → j < 8 → ltb (getD ws (at + 1 + j) 0) (2 ^ cond (eqb (getD ws at 0) 1) 0 (min 16 (domains - 16 * j))) ≡ true = upTo-at _ 8 (search (both-left, both-right)) in
+      let below : (j : ℕ) → j < 8 → ltb (getD ws (at + 1 + j) 0) (2 ^ cond (eqb (getD ws at 0) 1) 0 (min 16 (domains - 16 * j))) ≡ true =
+      upTo-at _ 8 (search (both-left, both-right)) in
       by-mark
-      (λ w. rw (grant-every w) (padded-stands ws at 9 (1 ∷ []) (stands-more ws at (at + 1) 1 [] refl w (record { reads = λ i l. absurd (not-suc-le-zero l) }))
-      (λ i p q.
-      let z : ltb (getD ws (at + 1 + (i - 1)) 0) 1 ≡ true = rw w at (below (i - 1) (omega arith)) in
-      word-at ws (at + 1 + (i - 1)) (at + i) 0 (omega arith) (omega (arith, ltb-true (getD ws (at + 1 + (i - 1)) 0) 1 z)))))
-      (λ w. rw (grant-these w) (stands-more ws at (at + 1) 0 _ refl (omega arith) (set-stands ws (at + 1) domains (λ j l. ltb-true _ _ (rw (ne-eqb (getD ws at 0) 1 w) at (below j l))))))
+      (λ w. rw (grant-every w) (every-stands w (λ j l. omega (arith, ltb-true (getD ws (at + 1 + j) 0) 1 (rw w at (below j l))))))
+      (λ w. rw (grant-these w)
+      (stands-more ws at (at + 1) 0 _ refl (omega arith) (set-stands ws (at + 1) domains (λ j l. ltb-true _ _ (rw (ne-eqb (getD ws at 0) 1 w) at (below j l))))))
+
+  these-fit : Stands ws at (grantWords (these (set-in ws (at + 1) domains))) → grantFits ws at domains ≡ true
+  unfolding grantFits grantWords
+  these-fit s =
+      let z : getD ws at 0 ≡ 0 = stands-word ws at 0 at _ s (omega arith) (omega arith) in
+      rw z (upTo-all _ 8 (λ j l. lt-ltb _ _ (set-below ws (at + 1) domains (stands-right ws at (at + 1) (0 ∷ []) _ refl s) j l)))
 
   pub grant-fits : Stands ws at (grantWords (grantIn ws at domains)) → grantFits ws at domains ≡ true
-  unfolding grantFits grantWords
+  unfolding grantFits
   grant-fits s =
       by-mark
-      (λ w.
-      let t : Stands ws at (padded 9 (1 ∷ [])) = rw (grant-every w) at s in
-      rw w (upTo-all _ 8 (λ j l. lt-ltb (getD ws (at + 1 + j) 0) 1 (omega (arith, word-at ws (at + (1 + j)) (at + 1 + j) 0 (omega arith) (padded-zero ws at 9 (1 ∷ []) t (1 + j) (omega arith) (omega arith)))))))
-      (λ w.
-      let t : Stands ws at (0 ∷ setWords (set-in ws (at + 1) domains)) = rw (grant-these w) at s in
-      let z : getD ws at 0 ≡ 0 = stands-word ws at 0 at _ t (omega arith) (omega arith) in
-      rw z (upTo-all _ 8 (λ j l. lt-ltb _ _ (set-below ws (at + 1) domains (stands-right ws at (at + 1) (0 ∷ []) _ refl t) j l))))
+      (λ w. rw w (upTo-all _ 8 (λ j l. lt-ltb (getD ws (at + 1 + j) 0) 1 (omega (arith, every-zero (rw (grant-every w) at s) j l)))))
+      (λ w. these-fit (rw (grant-these w) at s))

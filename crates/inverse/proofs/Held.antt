@@ -13,7 +13,7 @@ use Rattle.paper.specs.Table.{entryAt, descriptorAt, padded, entryWords, descri
 use Rattle.laws.proofs.Stretches.{Stands, word-at, length-taken, padded-stands}
 use Rattle.laws.proofs.Counting.{length-map-counted, counted-allOf}
 use Rattle.laws.proofs.Blocks.{blocks-stand, zero-blocks}
-use Rattle.inverse.specs.Proper.{properDescriptor, properEntry, accessesOf, descriptorsOf}
+use Rattle.inverse.specs.Proper.{properDescriptor, properEntry, accessesOf, allDescriptors}
 use Rattle.inverse.proofs.Entries.{Agree, descriptor-few, entry-few, length-descriptor, length-entry, descriptor-proper, descriptor-stands, entry-proper, entry-stands, entry-context}
 use Rattle.inverse.proofs.Parts.{Proper, Parts, length-entries, length-descriptors}
 use Rattle.inverse.proofs.Formed.{Formed, members-below, members-stand}
@@ -36,7 +36,7 @@ module _ (ws : List ℕ) (f : Formed ws) where
   unfolding policyIn
   entries-length = length-map-counted (entryIn ws) 0 (entryCount ws)
 
-  descriptors-length : length (descriptorsOf held) ≡ descriptorCount ws
+  descriptors-length : length (allDescriptors held) ≡ descriptorCount ws
   descriptors-length = rw (descriptors-in ws) (length-map-counted (descriptorIn ws) 0 (descriptorCount ws))
 
   agree : Agree held ws
@@ -90,9 +90,9 @@ module _ (ws : List ℕ) (f : Formed ws) where
       (λ (l : i < 8192). zero-blocks ws 7712 32 (descriptorCount ws) 256 (omega arith) (f .noDescriptor) i p l)
       (λ (l : ¬ (i < 8192)). word-at ws (15904 + (i - 8192)) (7712 + i) 0 (omega arith) (f .spare (i - 8192) (omega arith)))
 
-  formed-descriptors : Stands ws 7712 (padded 8672 (flatMap descriptorWords (descriptorsOf held)))
+  formed-descriptors : Stands ws 7712 (padded 8672 (flatMap descriptorWords (allDescriptors held)))
   formed-descriptors =
-      padded-stands ws 7712 8672 (flatMap descriptorWords (descriptorsOf held))
+      padded-stands ws 7712 8672 (flatMap descriptorWords (allDescriptors held))
       (rw (descriptors-in ws)
       (blocks-stand descriptorWords ws 7712 32 (descriptorIn ws) 0 (descriptorCount ws)
       (λ d p q. length-descriptor (descriptorIn ws d) (descriptor-few held (descriptorIn ws d) (each-descriptor d (omega arith))))

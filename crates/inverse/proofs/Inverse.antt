@@ -53,3 +53,8 @@ module _ (ws : List ℕ) (h : wellFormed ws ≡ true) where
 -- two tables that hold one policy hold the same words
 pub tables-agree : (a b : List ℕ) → wellFormed a ≡ true → wellFormed b ≡ true → policyIn a ≡ policyIn b → take 16384 a ≡ take 16384 b
 tables-agree a b p q e = words-of-policy a p ∙ ap wordsOf e ∙ sym (words-of-policy b q)
+
+-- what lies past them is never read
+pub rest-unread : (ws : List ℕ) → wellFormed ws ≡ true → (rest : List ℕ) → (wellFormed (take 16384 ws ++ rest) ≡ true) × (policyIn (take 16384 ws ++ rest) ≡ policyIn ws)
+rest-unread ws h rest =
+    rw (words-of-policy ws h) (words-well-formed (policyIn ws) (policy-proper ws h) rest, policy-of-words (policyIn ws) (policy-proper ws h) rest)

@@ -3,7 +3,6 @@ use mathlib.Core.Path.{_≡_, refl}
 use mathlib.Core.Bool.{true}
 use mathlib.Core.List.{List, [], _∷_, _++_, flatMap}
 use Prim.Native.Nat.{ℕ, _+_, _-_, _*_, _<_, _≤_}
-use native.Mathlib.Nat.{not-suc-le-zero}
 use native.Mathlib.Omega.{arith}
 use borrow.Author.Tests.{leb-true, le-leb}
 use lib.Dec.{ltb}
@@ -12,10 +11,10 @@ use Rattle.paper.specs.Common.{allOf}
 use Rattle.paper.specs.Policy.{Policy}
 use Rattle.paper.specs.Table.{mark, padded, entryWords, descriptorWords, wordsOf}
 use Rattle.laws.proofs.Tests.{both-true, both-left, both-right}
-use Rattle.laws.proofs.Stretches.{Stands, word-at, stands-left, stands-right, stands-both, stands-more, padded-front, padded-zero, padded-stands, length-padded}
+use Rattle.laws.proofs.Stretches.{Stands, word-at, stands-none, stands-left, stands-right, stands-both, stands-more, padded-front, padded-zero, padded-stands, length-padded}
 use Rattle.laws.proofs.Counting.{allOf-weaker, allOf-flatMap, flatMap-flatMap}
 use Rattle.laws.proofs.Blocks.{length-blocks}
-use Rattle.inverse.specs.Proper.{properDescriptor, properEntry, properCounts, proper, accessesOf, descriptorsOf, noTwo, sharePrincipal}
+use Rattle.inverse.specs.Proper.{properDescriptor, properEntry, properCounts, proper, accessesOf, allDescriptors, noTwo, sharePrincipal}
 use Rattle.inverse.proofs.Entries.{Agree, descriptor-few, entry-few, entry-descriptors, length-descriptor, length-entry}
 
 -- what `proper` asks
@@ -25,7 +24,7 @@ pub record Proper (p : Policy) : Type 0 where
   pub objects : length (p .objects) ≤ 1024
   pub functions : length (p .functions) ≤ 1024
   pub entries : length (p .entries) ≤ 128
-  pub descriptors : length (descriptorsOf p) ≤ 256
+  pub descriptors : length (allDescriptors p) ≤ 256
   pub objectsBelow : allOf (λ d. ltb d (p .objectDomains)) (p .objects) ≡ true
   pub functionsBelow : allOf (λ d. ltb d (p .subjectDomains)) (p .functions) ≡ true
   pub each : allOf (properEntry p) (p .entries) ≡ true
@@ -79,18 +78,18 @@ pub record Parts (ws : List ℕ) (p : Policy) : Type 0 where
   pub objects : Stands ws 32 (padded 1024 (p .objects))
   pub functions : Stands ws 1056 (padded 1024 (p .functions))
   pub entries : Stands ws 2080 (padded 5632 (flatMap entryWords (p .entries)))
-  pub descriptors : Stands ws 7712 (padded 8672 (flatMap descriptorWords (descriptorsOf p)))
+  pub descriptors : Stands ws 7712 (padded 8672 (flatMap descriptorWords (allDescriptors p)))
 
 module _ (p : Policy) (good : Proper p) where
-  pub all-descriptors : allOf (properDescriptor p) (descriptorsOf p) ≡ true
-  unfolding descriptorsOf
+  pub all-descriptors : allOf (properDescriptor p) (allDescriptors p) ≡ true
+  unfolding allDescriptors
   all-descriptors = allOf-flatMap _ accessesOf (p .entries) (allOf-weaker (properEntry p) _ (entry-descriptors p) (p .entries) (good .each))
 
   pub length-entries : length (flatMap entryWords (p .entries)) ≡ 44 * length (p .entries)
   length-entries = length-blocks entryWords (properEntry p) 44 (λ e h. length-entry e (entry-few p e h)) (p .entries) (good .each)
 
-  pub length-descriptors : length (flatMap descriptorWords (descriptorsOf p)) ≡ 32 * length (descriptorsOf p)
-  length-descriptors = length-blocks descriptorWords (properDescriptor p) 32 (λ d h. length-descriptor d (descriptor-few p d h)) (descriptorsOf p) all-descriptors
+  pub length-descriptors : length (flatMap descriptorWords (allDescriptors p)) ≡ 32 * length (allDescriptors p)
+  length-descriptors = length-blocks descriptorWords (properDescriptor p) 32 (λ d h. length-descriptor d (descriptor-few p d h)) (allDescriptors p) all-descriptors
 
   abbrev head : List ℕ
   head = mark ∷ p .objectDomains ∷ p .subjectDomains ∷ length (p .objects) ∷ length (p .functions) ∷ length (p .entries) ∷ []
@@ -99,10 +98,10 @@ module _ (p : Policy) (good : Proper p) where
   abbrev blocks : List ℕ
   blocks =
       padded 32 head
-      ++ (padded 1024 (p .objects) ++ (padded 1024 (p .functions) ++ (padded 5632 (flatMap entryWords (p .entries)) ++ padded 8672 (flatMap descriptorWords (descriptorsOf p)))))
+      ++ (padded 1024 (p .objects) ++ (padded 1024 (p .functions) ++ (padded 5632 (flatMap entryWords (p .entries)) ++ padded 8672 (flatMap descriptorWords (allDescriptors p)))))
 
   words-blocks : wordsOf p ≡ blocks
-  unfolding wordsOf descriptorsOf accessesOf
+  unfolding wordsOf allDescriptors accessesOf
   words-blocks = rw (flatMap-flatMap descriptorWords (λ e. e .reads ++ e .writes) (p .entries))
 
   head-length : length (padded 32 head) ≡ 32
@@ -117,7 +116,7 @@ module _ (p : Policy) (good : Proper p) where
   entries-length : length (padded 5632 (flatMap entryWords (p .entries))) ≡ 5632
   entries-length = length-padded 5632 _ (omega (arith, length-entries, good .entries))
 
-  descriptors-length : length (padded 8672 (flatMap descriptorWords (descriptorsOf p))) ≡ 8672
+  descriptors-length : length (padded 8672 (flatMap descriptorWords (allDescriptors p))) ≡ 8672
   descriptors-length = length-padded 8672 _ (omega (arith, length-descriptors, good .descriptors))
 
   pub length-words : length (wordsOf p) ≡ 16384
@@ -157,7 +156,7 @@ module _ (p : Policy) (good : Proper p) where
         (stands-more ws 3 4 _ _ refl (t .objectCount)
         (stands-more ws 4 5 _ _ refl (t .functionCount)
         (stands-more ws 5 6 _ _ refl (t .entryCount)
-        (record { reads = λ i l. absurd (not-suc-le-zero l) })))))))
+        (stands-none ws 6)))))))
         (λ i a b. word-at ws (6 + (i - 6)) (0 + i) 0 (omega arith) (t .unused (i - 6) (omega arith))))
         (stands-both ws 32 1056 (padded 1024 (p .objects)) _ (omega (arith, objects-length)) (t .objects)
         (stands-both ws 1056 2080 (padded 1024 (p .functions)) _ (omega (arith, functions-length)) (t .functions)

@@ -4,7 +4,7 @@ use mathlib.Core.Bool.{Bool, true, not}
 use mathlib.Core.Logic.{⊎-elim}
 use mathlib.Core.List.{List, [], _∷_, _++_, map}
 use Prim.Native.Nat.{ℕ, zero, suc, _+_, _<_, _≤_}
-use native.Mathlib.Nat.{eq-or-lt-of-le, not-suc-le-zero}
+use native.Mathlib.Nat.{eq-or-lt-of-le}
 use native.Mathlib.Omega.{arith}
 use lib.ListN.{length, getD, take, drop, length-append, length-map}
 use Rattle.paper.specs.Common.{upTo, countUp}
@@ -12,7 +12,7 @@ use Rattle.paper.specs.Rules.{sortNumber}
 use Rattle.paper.specs.Policy.{Context}
 use Rattle.paper.specs.Table.{entryAt, elementWord, contextWords, entryCount, contextIn, entryIn, contextFits, onePrincipal, principalsDiffer}
 use Rattle.laws.proofs.Tests.{both-true, both-left, both-right, upTo-at, upTo-all, same-refl, same-equal, same-test}
-use Rattle.laws.proofs.Stretches.{stands-both, stands-more, taken-stretch, taken-same}
+use Rattle.laws.proofs.Stretches.{stands-none, stands-both, stands-more, taken-stretch, taken-same}
 use Rattle.laws.proofs.Counting.{allOf-counted, counted-allOf}
 use Rattle.inverse.specs.Proper.{noTwo, principalOf, sharePrincipal}
 use Rattle.inverse.proofs.Contexts.{length-context, context-few, context-read, context-stands, context-proper}
@@ -58,7 +58,7 @@ module _ (ws : List ℕ) where
       let l : length (contextWords (contextIn ws at)) ≡ 20 = length-context (contextIn ws at) (few at s) in
       taken-stretch ws at 21 _ (rw (length-append, l)) room
       (stands-both ws at (at + 20) (contextWords (contextIn ws at)) _ (omega arith) (context-stands ws at (omega arith) (s .fits))
-      (stands-more ws (at + 20) (at + 21) _ [] (omega arith) refl (record { reads = λ i l. absurd (not-suc-le-zero l) })))
+      (stands-more ws (at + 20) (at + 21) _ [] (omega arith) refl (stands-none ws (at + 21))))
 
   -- the same 21 words: one context
   context-same : (a b : ℕ) → Standing a → Standing b → take 21 (drop a ws) ≡ take 21 (drop b ws) → contextIn ws b ≡ contextIn ws a

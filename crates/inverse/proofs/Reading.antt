@@ -13,7 +13,7 @@ use Rattle.laws.proofs.Tests.{both-left, both-right}
 use Rattle.laws.proofs.Stretches.{Stands, stands-left, stands-right, taken-stretch, padded-front}
 use Rattle.laws.proofs.Counting.{allOf-append-left, allOf-append-right, counted-list}
 use Rattle.laws.proofs.Blocks.{next-block, length-blocks, blocks-left, blocks-right}
-use Rattle.inverse.specs.Proper.{properDescriptor, properEntry, accessesOf, descriptorsOf}
+use Rattle.inverse.specs.Proper.{properDescriptor, properEntry, accessesOf, allDescriptors}
 use Rattle.inverse.proofs.Entries.{EntryParts, descriptor-few, entry-few, entry-descriptors, length-descriptor, length-entry, entry-parts, descriptor-read, entry-read}
 use Rattle.inverse.proofs.Parts.{Proper, Parts, parts-agree}
 
@@ -89,7 +89,7 @@ module _ (p : Policy) (good : Proper p) (ws : List ℕ) (long : 16384 ≤ length
       )
 
   entries-read : map (entryIn ws) (countUp 0 (length (p .entries))) ≡ p .entries
-  unfolding firstDescriptor descriptorsOf
+  unfolding firstDescriptor allDescriptors
   entries-read = counted-list (entryIn ws) EntriesFrom entry-step 0 (p .entries) (record {
     few = omega (arith, good .entries);
     fewDescriptors = omega (arith, good .descriptors);

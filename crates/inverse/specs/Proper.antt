@@ -63,8 +63,8 @@ sharePrincipal a b = same (principalOf a) (principalOf b)
 unfoldable pub accessesOf : Entry → List Descriptor
 accessesOf e = e .reads ++ e .writes
 
-unfoldable pub descriptorsOf : Policy → List Descriptor
-descriptorsOf p = flatMap accessesOf (p .entries)
+unfoldable pub allDescriptors : Policy → List Descriptor
+allDescriptors p = flatMap accessesOf (p .entries)
 
 unfoldable pub properDescriptor : Policy → Descriptor → Bool
 properDescriptor p d = properContext (length (p .functions)) (d .context) && properGrant (p .objectDomains) (d .objects)
@@ -86,7 +86,7 @@ properCounts p =
     && leb (length (p .objects)) 1024
     && leb (length (p .functions)) 1024
     && leb (length (p .entries)) 128
-    && leb (length (descriptorsOf p)) 256
+    && leb (length (allDescriptors p)) 256
 
 unfoldable pub proper : Policy → Bool
 proper p =

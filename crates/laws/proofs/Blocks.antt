@@ -4,14 +4,14 @@ use mathlib.Core.Bool.{Bool, true}
 use mathlib.Core.Logic.{⊎-elim}
 use mathlib.Core.List.{List, [], _∷_, _++_, map, flatMap}
 use Prim.Native.Nat.{ℕ, zero, suc, _+_, _*_, _/_, _%_, _<_, _≤_}
-use native.Mathlib.Nat.{not-suc-le-zero, eq-or-lt-of-le, mul-zero, mul-suc, mul-comm, mul-add, div-add-mod, mod-lt, le-div-iff-mul-le, div-lt-iff-lt-mul}
+use native.Mathlib.Nat.{eq-or-lt-of-le, mul-zero, mul-suc, mul-comm, mul-add, div-add-mod, mod-lt, le-div-iff-mul-le, div-lt-iff-lt-mul}
 use native.Mathlib.Numerals.{add-one}
 use native.Mathlib.Omega.{arith}
 use lib.ListN.{length, getD, length-append}
 use Rattle.paper.specs.Common.{allOf, countUp}
 use Rattle.laws.proofs.Tests.{both-left, both-right}
 use Rattle.laws.proofs.Counting.{flatMap-append}
-use Rattle.laws.proofs.Stretches.{Stands, word-at, stands-left, stands-right, stands-both}
+use Rattle.laws.proofs.Stretches.{Stands, word-at, stands-none, stands-left, stands-right, stands-both}
 
 pub next-block : (base size k n : ℕ) → n ≡ size → base + size * k + n ≡ base + size * (k + 1)
 next-block base size k n e = rw (e, add-one k, mul-suc) (omega arith)
@@ -41,7 +41,7 @@ module _ {A : Type 0} (words : A → List ℕ) where
     pub blocks-stand : (k n : ℕ) → ((i : ℕ) → k ≤ i → i < k + n → length (words (back i)) ≡ size)
         → ((i : ℕ) → k ≤ i → i < k + n → Stands ws (base + size * i) (words (back i))) → Stands ws (base + size * k) (flatMap words (map back (countUp k n)))
     unfolding flatMap countUp
-    blocks-stand k zero long h = record { reads = λ i l. absurd (not-suc-le-zero l) }
+    blocks-stand k zero long h = stands-none ws (base + size * k)
     blocks-stand k (suc n) long h =
         stands-both ws (base + size * k) (base + size * (k + 1)) (words (back k)) _ (next-block base size k _ (long k (omega arith) (omega arith)))
         (h k (omega arith) (omega arith))

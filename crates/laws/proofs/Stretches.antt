@@ -1,10 +1,10 @@
 -- A stretch of words that stands in a list at a place: how it is read, cut, put together and filled up with zeros.
 use mathlib.Core.Path.{_≡_, refl, sym, ap, _∙_}
-use mathlib.Core.List.{List, _∷_, _++_}
+use mathlib.Core.List.{List, [], _∷_, _++_}
 use mathlib.Core.Bool.{true}
 use mathlib.Core.Logic.{dite}
 use Prim.Native.Nat.{ℕ, zero, suc, _+_, _-_, _<_, _≤_}
-use native.Mathlib.Nat.{zero-add, add-zero}
+use native.Mathlib.Nat.{zero-add, add-zero, not-suc-le-zero}
 use native.Mathlib.Decide.{decLt}
 use native.Mathlib.Omega.{arith}
 use lib.ListN.{length, getD, take, drop, replicate, length-append, length-take, length-drop, length-replicate, getD-replicate, List·getD-append}
@@ -51,6 +51,9 @@ module _ (ws : List ℕ) where
     where
       behind : (i : ℕ) → length xs ≤ i → getD ys (i - length xs) 0 ≡ getD (xs ++ ys) i 0
       behind i h = let e : length xs + (i - length xs) ≡ i = omega arith in sym (getD-append-add xs ys (i - length xs) 0) ∙ ap (λ (k : ℕ). getD (xs ++ ys) k 0) e
+
+  pub stands-none : (at : ℕ) → Stands ws at []
+  stands-none at = record { reads = λ i h. absurd (not-suc-le-zero h) }
 
   -- one word, and a stretch behind it
   pub stands-more : (at to x : ℕ) (xs : List ℕ) → at + 1 ≡ to → getD ws at 0 ≡ x → Stands ws to xs → Stands ws at (x ∷ xs)
