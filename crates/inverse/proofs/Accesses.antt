@@ -9,6 +9,7 @@ use native.Mathlib.Omega.{arith}
 use lib.Dec.{eqb, eqb·suc-suc, eqb·suc-zero}
 use lib.ListN.{getD}
 use Rattle.paper.specs.Common.{countUp, allOf}
+use Rattle.paper.specs.Policy.{Descriptor}
 use Rattle.paper.specs.Table.{entryAt, descriptorAt, sortIn, entryCount, descriptorCount, readCount, writeCount, firstDescriptor, contextIn, descriptorIn, entryIn, policyIn, boundBy, variablesBound}
 use Rattle.laws.proofs.Tests.{upTo-at, upTo-all}
 use Rattle.laws.proofs.Counting.{counted-append, counted-runs, allOf-counted, counted-allOf}
@@ -26,11 +27,15 @@ module _ (ws : List ℕ) where
   unfolding boundBy boundIn contextIn
   bound-by entry at = rw (binding (getD ws (at + 1) 0), binding (getD ws (entry + 1) 0), binding (getD ws (at + 2) 0), binding (getD ws (entry + 2) 0))
 
-  pub accesses : (k : ℕ) → accessesOf (entryIn ws k) ≡ map (descriptorIn ws) (countUp (firstDescriptor ws k) (readCount ws k + writeCount ws k))
+  -- how many descriptors entry k has
+  abbrev pub accessCount : ℕ → ℕ
+  accessCount k = readCount ws k + writeCount ws k
+
+  pub accesses : (k : ℕ) → accessesOf (entryIn ws k) ≡ map (descriptorIn ws) (countUp (firstDescriptor ws k) (accessCount k))
   unfolding accessesOf entryIn
   accesses k = rw (counted-append (firstDescriptor ws k) (readCount ws k) (writeCount ws k), map-append)
 
-  pub first-more : (k : ℕ) → firstDescriptor ws (suc k) ≡ firstDescriptor ws k + (readCount ws k + writeCount ws k)
+  first-more : (k : ℕ) → firstDescriptor ws (suc k) ≡ firstDescriptor ws k + accessCount k
   unfolding firstDescriptor
   first-more k = omega arith
 
@@ -39,7 +44,7 @@ module _ (ws : List ℕ) where
   first-none = refl
 
   -- a descriptor of an entry is one of all
-  pub first-below : (n k : ℕ) → k < n → firstDescriptor ws k + (readCount ws k + writeCount ws k) ≤ firstDescriptor ws n
+  pub first-below : (n k : ℕ) → k < n → firstDescriptor ws k + accessCount k ≤ firstDescriptor ws n
   first-below zero k h = absurd (not-suc-le-zero h)
   first-below (suc n) k h =
       ⊎-elim
@@ -48,7 +53,7 @@ module _ (ws : List ℕ) where
       (eq-or-lt-of-le h)
 
   all-accesses : (n : ℕ) → flatMap accessesOf (map (entryIn ws) (countUp 0 n)) ≡ map (descriptorIn ws) (countUp 0 (firstDescriptor ws n))
-  all-accesses n = counted-runs (entryIn ws) accessesOf (descriptorIn ws) (firstDescriptor ws) (λ k. readCount ws k + writeCount ws k) first-none first-more accesses n
+  all-accesses n = counted-runs (entryIn ws) accessesOf (descriptorIn ws) (firstDescriptor ws) accessCount first-none first-more accesses n
 
   -- all descriptors of the policy in a table, in order
   pub descriptors-in : allDescriptors (policyIn ws) ≡ map (descriptorIn ws) (countUp 0 (descriptorCount ws))
@@ -57,19 +62,23 @@ module _ (ws : List ℕ) where
 
   -- ---- an entry's descriptors are bound by it
 
+  abbrev bound-to : ℕ → Descriptor → Bool
+  bound-to k d = boundIn (entryIn ws k .context) (d .context)
+
   abbrev bound-in : ℕ → Bool
-  bound-in k = allOf (λ d. boundIn (entryIn ws k .context) (d .context)) (accessesOf (entryIn ws k))
+  bound-in k = allOf (bound-to k) (accessesOf (entryIn ws k))
 
   pub variables-bound : ((k : ℕ) → k < entryCount ws → bound-in k ≡ true) → variablesBound ws ≡ true
   unfolding variablesBound entryIn descriptorIn
-  variables-bound h = upTo-all _ (entryCount ws) (λ k l. upTo-all _ (readCount ws k + writeCount ws k) (λ i m.
+  variables-bound h = upTo-all _ (entryCount ws) (λ k l. upTo-all _ (accessCount k) (λ i m.
       rw (bound-by (entryAt k) (descriptorAt (firstDescriptor ws k + i)))
-      (allOf-counted (descriptorIn ws) (λ d. boundIn (entryIn ws k .context) (d .context)) (firstDescriptor ws k) (readCount ws k + writeCount ws k) (rw (accesses k) at (h k l)) (firstDescriptor ws k + i) (omega arith) (omega arith))))
+      (allOf-counted (descriptorIn ws) (bound-to k) (firstDescriptor ws k) (accessCount k) (rw (accesses k) at (h k l)) (firstDescriptor ws k + i) (omega arith) (omega arith))))
 
   pub bound-variables : variablesBound ws ≡ true → (k : ℕ) → k < entryCount ws → bound-in k ≡ true
   unfolding variablesBound entryIn descriptorIn
   bound-variables h k l =
-      let each : (j : ℕ) → j < readCount ws k + writeCount ws k → boundBy ws (entryAt k) (descriptorAt (firstDescriptor ws k + j)) ≡ true = upTo-at _ (readCount ws k + writeCount ws k) (upTo-at _ (entryCount ws) h k l) in
-      rw (accesses k) (counted-allOf (descriptorIn ws) (λ d. boundIn (entryIn ws k .context) (d .context)) (firstDescriptor ws k) (readCount ws k + writeCount ws k) (λ i p q.
+      let each : (j : ℕ) → j < accessCount k → boundBy ws (entryAt k) (descriptorAt (firstDescriptor ws k + j)) ≡ true =
+      upTo-at _ (accessCount k) (upTo-at _ (entryCount ws) h k l) in
+      rw (accesses k) (counted-allOf (descriptorIn ws) (bound-to k) (firstDescriptor ws k) (accessCount k) (λ i p q.
       let e : firstDescriptor ws k + (i - firstDescriptor ws k) ≡ i = omega arith in
       rw (← bound-by (entryAt k) (descriptorAt i)) (rw e at (each (i - firstDescriptor ws k) (omega arith)))))

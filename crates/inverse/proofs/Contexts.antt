@@ -99,7 +99,8 @@ module _ (ws : List ℕ) (at : ℕ) where
   unfolding contextFits
   fitting h =
       let few : getD ws at 0 ≤ 16 = leb-true _ _ (search (both-left, both-right) depth 7) in
-      let element : (i : ℕ) → i < 16 → leb (getD ws (at + 4 + i) 0) (cond (ltb i (getD ws at 0)) (functionCount ws) 0) ≡ true = upTo-at _ 16 (search (both-left, both-right) depth 7) in
+      let element : (i : ℕ) → i < 16 → leb (getD ws (at + 4 + i) 0) (cond (ltb i (getD ws at 0)) (functionCount ws) 0) ≡ true =
+      upTo-at _ 16 (search (both-left, both-right) depth 7) in
       record {
         some = leb-true _ _ (search (both-left, both-right) depth 7);
         few = few;
@@ -133,8 +134,9 @@ module _ (ws : List ℕ) (at : ℕ) where
       let n : getD ws at 0 ≡ length (c .pattern) = stands-word ws at 0 at _ s (omega arith) (omega arith) in
       let u : getD ws (at + 1) 0 ≡ sortNumber (c .uid) = s .reads 1 (omega arith) in
       let g : getD ws (at + 2) 0 ≡ sortNumber (c .gid) = s .reads 2 (omega arith) in
-      let body : Stands ws (at + 4) (padded 16 (map elementWord (c .pattern))) = stands-right ws at (at + 4) (length (c .pattern) ∷ sortNumber (c .uid) ∷ sortNumber (c .gid) ∷ 0 ∷ []) _ refl s in
-      let t : take (length (c .pattern)) (drop (at + 4) ws) ≡ map elementWord (c .pattern) = taken-stretch ws (at + 4) _ _ (length-map (c .pattern) elementWord) (omega arith) (padded-front ws (at + 4) 16 _ body) in
+      let body : Stands ws (at + 4) (padded 16 (map elementWord (c .pattern))) = stands-right ws at (at + 4) (_ ∷ _ ∷ _ ∷ 0 ∷ []) _ refl s in
+      let t : take (length (c .pattern)) (drop (at + 4) ws) ≡ map elementWord (c .pattern) =
+      taken-stretch ws (at + 4) _ _ (length-map (c .pattern) elementWord) (omega arith) (padded-front ws (at + 4) 16 _ body) in
       rw (n, u, g, t, maps-back elementIn elementWord element-read (c .pattern), sort-read (c .uid), sort-read (c .gid))
 
   -- the words of the pattern
@@ -145,7 +147,8 @@ module _ (ws : List ℕ) (at : ℕ) where
     pattern-length : getD ws at 0 ≤ 16 → length (map elementIn pattern-words) ≡ getD ws at 0
     pattern-length few = length-map pattern-words elementIn ∙ length-taken ws (at + 4) (getD ws at 0) (omega arith)
 
-    pattern-word : (i : ℕ) → i < length (map elementIn pattern-words) → elementBelow (functionCount ws) (getD (map elementIn pattern-words) i (elementIn 0)) ≡ leb (getD ws (at + 4 + i) 0) (functionCount ws)
+    pattern-word : (i : ℕ) → i < length (map elementIn pattern-words)
+        → elementBelow (functionCount ws) (getD (map elementIn pattern-words) i (elementIn 0)) ≡ leb (getD ws (at + 4 + i) 0) (functionCount ws)
     pattern-word i l =
         rw (List·getD-map elementIn pattern-words i 0, element-below (functionCount ws) (getD pattern-words i 0))
         (ap (λ (w : ℕ). leb w (functionCount ws)) (sym (stands-taken ws (at + 4) (getD ws at 0) .reads i (rw length-map at l))))
@@ -154,12 +157,16 @@ module _ (ws : List ℕ) (at : ℕ) where
     unfolding contextWords contextIn
     context-stands h =
         let f : Fitting ws at = fitting h in
-        rw (pattern-length (f .few), sort-written (getD ws (at + 1) 0) (f .uid), sort-written (getD ws (at + 2) 0) (omega (arith, f .gid)), maps-back elementWord elementIn element-written pattern-words)
+        let n : length (map elementIn pattern-words) ≡ getD ws at 0 = pattern-length (f .few) in
+        let u : sortNumber (sortIn (getD ws (at + 1) 0)) ≡ getD ws (at + 1) 0 = sort-written (getD ws (at + 1) 0) (f .uid) in
+        let g : sortNumber (sortIn (getD ws (at + 2) 0)) ≡ getD ws (at + 2) 0 = sort-written (getD ws (at + 2) 0) (omega (arith, f .gid)) in
+        rw (n, u, g, maps-back elementWord elementIn element-written pattern-words)
         (stands-more ws at (at + 1) _ _ refl refl
         (stands-more ws (at + 1) (at + 2) _ _ (omega arith) refl
         (stands-more ws (at + 2) (at + 3) _ _ (omega arith) refl
         (stands-more ws (at + 3) (at + 4) _ _ (omega arith) (f .unused)
-        (padded-stands ws (at + 4) 16 pattern-words (stands-taken ws (at + 4) (getD ws at 0)) (λ i p q. f .past i (omega (arith, pattern-length (f .few), length-map pattern-words elementIn)) q))))))
+        (padded-stands ws (at + 4) 16 pattern-words (stands-taken ws (at + 4) (getD ws at 0))
+        (λ i p q. f .past i (omega (arith, length-map pattern-words elementIn)) q))))))
 
     pub context-proper : contextFits ws at ≡ true → properContext (functionCount ws) (contextIn ws at) ≡ true
     unfolding properContext contextIn

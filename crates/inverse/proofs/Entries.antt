@@ -152,7 +152,11 @@ module _ (p : Policy) (ws : List ℕ) (agree : Agree p ws) where
     descriptor-read d fit good s =
         let few : length (d .context .pattern) ≤ 16 = descriptor-few p d good in
         let parts : DescriptorParts ws (descriptorAt k) d = descriptor-parts d few ws (descriptorAt k) s in
-        rw (context-read ws (descriptorAt k) (d .context) (omega arith) few (parts .context), agree .objectDomains, grant-read ws (descriptorAt k + 20) (p .objectDomains) (d .objects) fit (search both-right) (parts .objects))
+        rw (
+          context-read ws (descriptorAt k) (d .context) (omega arith) few (parts .context),
+          agree .objectDomains,
+          grant-read ws (descriptorAt k + 20) (p .objectDomains) (d .objects) fit (search both-right) (parts .objects),
+        )
 
     pub descriptor-proper : descriptorFits ws (descriptorAt k) ≡ true → properDescriptor p (descriptorIn ws k) ≡ true
     unfolding descriptorIn descriptorFits properDescriptor
@@ -170,7 +174,8 @@ module _ (p : Policy) (ws : List ℕ) (agree : Agree p ws) where
           rest = zeros-at ws (descriptorAt k + 29) 3 (search both-right);
         })
 
-    pub descriptor-fits : Stands ws (descriptorAt k) (descriptorWords (descriptorIn ws k)) → properDescriptor p (descriptorIn ws k) ≡ true → descriptorFits ws (descriptorAt k) ≡ true
+    pub descriptor-fits : Stands ws (descriptorAt k) (descriptorWords (descriptorIn ws k)) → properDescriptor p (descriptorIn ws k) ≡ true
+        → descriptorFits ws (descriptorAt k) ≡ true
     unfolding descriptorIn descriptorFits properDescriptor
     descriptor-fits s h =
         let parts : DescriptorParts ws (descriptorAt k) (descriptorIn ws k) = descriptor-parts (descriptorIn ws k) (descriptor-few p (descriptorIn ws k) h) ws (descriptorAt k) s in
@@ -207,9 +212,11 @@ module _ (p : Policy) (ws : List ℕ) (agree : Agree p ws) where
         → allOf (λ d. boundIn (entryIn ws k .context) (d .context)) (accessesOf (entryIn ws k)) ≡ true → properEntry p (entryIn ws k) ≡ true
     unfolding entryIn entryFits properEntry
     entry-proper h good bound =
-        let c : properContext (length (p .functions)) (contextIn ws (entryAt k)) ≡ true = rw (← agree .functions) (context-proper ws (entryAt k) (omega arith) (search both-left depth 7)) in
+        let c : properContext (length (p .functions)) (contextIn ws (entryAt k)) ≡ true =
+        rw (← agree .functions) (context-proper ws (entryAt k) (omega arith) (search both-left depth 7)) in
         let s : ltb (getD ws (entryAt k + 20) 0) (p .subjectDomains) ≡ true = rw (← agree .subjectDomains) (search (both-left, both-right) depth 7) in
-        let g : (at : ℕ) → properGrant (p .subjectDomains) (grantIn ws at (subjectDomainCount ws)) ≡ true = λ at. rw (← agree .subjectDomains) (grant-proper ws at (subjectDomainCount ws)) in
+        let g : (at : ℕ) → properGrant (p .subjectDomains) (grantIn ws at (subjectDomainCount ws)) ≡ true =
+        λ at. rw (← agree .subjectDomains) (grant-proper ws at (subjectDomainCount ws)) in
         both-true _ _ (both-true _ _ (both-true _ _ (both-true _ _ (both-true _ _ c s) (g (entryAt k + 24))) (g (entryAt k + 33))) good) bound
 
     pub entry-stands : entryFits ws (entryAt k) ≡ true → Stands ws (entryAt k) (entryWords (entryIn ws k))

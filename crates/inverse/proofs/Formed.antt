@@ -1,6 +1,6 @@
 -- What `wellFormed` asks, fact by fact.
 use mathlib.Core.Path.{_≡_}
-use mathlib.Core.Bool.{true, cond}
+use mathlib.Core.Bool.{Bool, true, cond}
 use mathlib.Core.List.{List}
 use Prim.Native.Nat.{ℕ, _+_, _<_, _≤_}
 use native.Mathlib.Omega.{arith}
@@ -34,11 +34,31 @@ pub record Formed (ws : List ℕ) : Type 0 where
   pub bound : variablesBound ws ≡ true
 
 module _ (ws : List ℕ) where
+  -- n blocks that fit, and zeros in the others up to m
+  module _ (fits : ℕ → Bool) (place : ℕ → ℕ) (size n m : ℕ) where
+    abbrev blocks-fit : Bool
+    blocks-fit = upTo (λ k. cond (ltb k n) (fits k) (zeros ws (place k) size)) m
+
+    block-fits : n ≤ m → blocks-fit ≡ true → (k : ℕ) → k < n → fits k ≡ true
+    block-fits few h k l = upTo-first fits (λ k. zeros ws (place k) size) n m h k l (omega arith)
+
+    no-block : blocks-fit ≡ true → (k : ℕ) → n ≤ k → k < m → (i : ℕ) → i < size → getD ws (place k + i) 0 ≡ 0
+    no-block h k p q = zeros-at ws (place k) size (upTo-rest fits (λ k. zeros ws (place k) size) n m h k p q)
+
+    all-blocks : ((k : ℕ) → k < n → fits k ≡ true) → ((k : ℕ) → n ≤ k → k < m → (i : ℕ) → i < size → getD ws (place k + i) 0 ≡ 0) → blocks-fit ≡ true
+    all-blocks f g = upTo-both fits (λ k. zeros ws (place k) size) n m (λ k l m. f k l) (λ k p q. zeros-all ws (place k) size (g k p q))
+
+  abbrev entry-fits : ℕ → Bool
+  entry-fits k = entryFits ws (entryAt k)
+
+  abbrev descriptor-fits : ℕ → Bool
+  descriptor-fits d = descriptorFits ws (descriptorAt d)
+
   pub formed : wellFormed ws ≡ true → Formed ws
   unfolding wellFormed countsFit entriesFit descriptorsFit
   formed h =
-      let entries : upTo (λ k. cond (ltb k (entryCount ws)) (entryFits ws (entryAt k)) (zeros ws (entryAt k) 44)) 128 ≡ true = search (both-left, both-right) depth 17 in
-      let descriptors : upTo (λ d. cond (ltb d (descriptorCount ws)) (descriptorFits ws (descriptorAt d)) (zeros ws (descriptorAt d) 32)) 256 ≡ true = search (both-left, both-right) depth 17 in
+      let entries : blocks-fit entry-fits entryAt 44 (entryCount ws) 128 ≡ true = search (both-left, both-right) depth 17 in
+      let descriptors : blocks-fit descriptor-fits descriptorAt 32 (descriptorCount ws) 256 ≡ true = search (both-left, both-right) depth 17 in
       let fewEntries : entryCount ws ≤ 128 = leb-true _ _ (search (both-left, both-right) depth 17) in
       let fewDescriptors : descriptorCount ws ≤ 256 = leb-true _ _ (search (both-left, both-right) depth 17) in
       record {
@@ -53,22 +73,31 @@ module _ (ws : List ℕ) where
         unused = zeros-at ws 6 26 (search (both-left, both-right) depth 17);
         objects = search (both-left, both-right) depth 17;
         functions = search (both-left, both-right) depth 17;
-        entry = λ k l. upTo-first (λ k. entryFits ws (entryAt k)) (λ k. zeros ws (entryAt k) 44) (entryCount ws) 128 entries k l (omega arith);
-        noEntry = λ k p q. zeros-at ws (entryAt k) 44 (upTo-rest (λ k. entryFits ws (entryAt k)) (λ k. zeros ws (entryAt k) 44) (entryCount ws) 128 entries k p q);
-        descriptor = λ d l. upTo-first (λ d. descriptorFits ws (descriptorAt d)) (λ d. zeros ws (descriptorAt d) 32) (descriptorCount ws) 256 descriptors d l (omega arith);
-        noDescriptor = λ d p q. zeros-at ws (descriptorAt d) 32 (upTo-rest (λ d. descriptorFits ws (descriptorAt d)) (λ d. zeros ws (descriptorAt d) 32) (descriptorCount ws) 256 descriptors d p q);
+        entry = block-fits entry-fits entryAt 44 (entryCount ws) 128 fewEntries entries;
+        noEntry = no-block entry-fits entryAt 44 (entryCount ws) 128 entries;
+        descriptor = block-fits descriptor-fits descriptorAt 32 (descriptorCount ws) 256 fewDescriptors descriptors;
+        noDescriptor = no-block descriptor-fits descriptorAt 32 (descriptorCount ws) 256 descriptors;
         spare = zeros-at ws 15904 480 (search (both-left, both-right) depth 17);
         apart = search (both-left, both-right) depth 17;
         bound = search both-right depth 17;
       }
 
+  counts-fit : Formed ws → countsFit ws ≡ true
+  unfolding countsFit
+  counts-fit f =
+      both-true _ _
+      (both-true _ _
+      (both-true _ _
+      (both-true _ _
+      (both-true _ _ (le-leb _ _ (f .objectDomains)) (le-leb _ _ (f .subjectDomains)))
+      (le-leb _ _ (f .fewObjects)))
+      (le-leb _ _ (f .fewFunctions)))
+      (le-leb _ _ (f .fewEntries)))
+      (le-leb _ _ (f .fewDescriptors))
+
   pub is-formed : Formed ws → wellFormed ws ≡ true
-  unfolding wellFormed countsFit entriesFit descriptorsFit
+  unfolding wellFormed entriesFit descriptorsFit
   is-formed f =
-      let counts : countsFit ws ≡ true =
-      both-true _ _ (both-true _ _ (both-true _ _ (both-true _ _ (both-true _ _ (le-leb _ _ (f .objectDomains)) (le-leb _ _ (f .subjectDomains))) (le-leb _ _ (f .fewObjects))) (le-leb _ _ (f .fewFunctions))) (le-leb _ _ (f .fewEntries))) (le-leb _ _ (f .fewDescriptors)) in
-      let entries : entriesFit ws ≡ true = upTo-both (λ k. entryFits ws (entryAt k)) (λ k. zeros ws (entryAt k) 44) (entryCount ws) 128 (λ k l m. f .entry k l) (λ k p q. zeros-all ws (entryAt k) 44 (f .noEntry k p q)) in
-      let descriptors : descriptorsFit ws ≡ true = upTo-both (λ d. descriptorFits ws (descriptorAt d)) (λ d. zeros ws (descriptorAt d) 32) (descriptorCount ws) 256 (λ d l m. f .descriptor d l) (λ d p q. zeros-all ws (descriptorAt d) 32 (f .noDescriptor d p q)) in
       both-true _ _
       (both-true _ _
       (both-true _ _
@@ -79,12 +108,12 @@ module _ (ws : List ℕ) where
       (both-true _ _
       (both-true _ _
       (both-true _ _ (le-leb _ _ (f .long)) (eq-eqb _ _ (f .marked)))
-      counts)
+      (counts-fit f))
       (zeros-all ws 6 26 (f .unused)))
       (f .objects))
       (f .functions))
-      entries)
-      descriptors)
+      (all-blocks entry-fits entryAt 44 (entryCount ws) 128 (f .entry) (f .noEntry)))
+      (all-blocks descriptor-fits descriptorAt 32 (descriptorCount ws) 256 (f .descriptor) (f .noDescriptor)))
       (zeros-all ws 15904 480 (f .spare)))
       (f .apart))
       (f .bound)

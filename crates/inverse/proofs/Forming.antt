@@ -1,10 +1,11 @@
 -- A table is well formed if the policy in it is proper and the table's words are that policy's.
 use mathlib.Core.Path.{_≡_, sym}
 use mathlib.Core.Bool.{true}
-use mathlib.Core.List.{List}
+use mathlib.Core.List.{List, map}
 use Prim.Native.Nat.{ℕ, _+_, _*_, _<_, _≤_}
 use native.Mathlib.Omega.{arith}
 use lib.ListN.{length, getD}
+use Rattle.paper.specs.Common.{allOf, countUp}
 use Rattle.paper.specs.Table.{entryAt, descriptorAt, entryWords, descriptorWords, objectDomainCount, subjectDomainCount, objectCount, functionCount, entryCount, descriptorCount, descriptorIn, entryIn, policyIn, entryFits, descriptorFits}
 use Rattle.laws.proofs.Stretches.{word-at, padded-front, padded-zero}
 use Rattle.laws.proofs.Counting.{length-map-counted, allOf-counted}
@@ -32,7 +33,8 @@ module _ (ws : List ℕ) (long : 16384 ≤ length ws) (good : Proper (policyIn w
 
   some-descriptor : (d : ℕ) → d < descriptorCount ws → properDescriptor (policyIn ws) (descriptorIn ws d) ≡ true
   some-descriptor d l =
-      allOf-counted (descriptorIn ws) (properDescriptor (policyIn ws)) 0 (descriptorCount ws) (rw (descriptors-in ws) at (all-descriptors (policyIn ws) good)) d (omega arith) (omega arith)
+      let all : allOf (properDescriptor (policyIn ws)) (map (descriptorIn ws) (countUp 0 (descriptorCount ws))) ≡ true = rw (descriptors-in ws) at (all-descriptors (policyIn ws) good) in
+      allOf-counted (descriptorIn ws) (properDescriptor (policyIn ws)) 0 (descriptorCount ws) all d (omega arith) (omega arith)
 
   entry-formed : (k : ℕ) → k < entryCount ws → entryFits ws (entryAt k) ≡ true
   unfolding policyIn

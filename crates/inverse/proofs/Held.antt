@@ -9,7 +9,7 @@ use native.Mathlib.Omega.{arith}
 use lib.ListN.{length, getD}
 use Rattle.paper.specs.Common.{allOf}
 use Rattle.paper.specs.Policy.{Policy}
-use Rattle.paper.specs.Table.{entryAt, descriptorAt, padded, entryWords, descriptorWords, objectDomainCount, subjectDomainCount, objectCount, functionCount, entryCount, descriptorCount, readCount, writeCount, firstDescriptor, descriptorIn, entryIn, policyIn}
+use Rattle.paper.specs.Table.{entryAt, descriptorAt, padded, entryWords, descriptorWords, objectDomainCount, subjectDomainCount, objectCount, functionCount, entryCount, descriptorCount, firstDescriptor, descriptorIn, entryIn, policyIn}
 use Rattle.laws.proofs.Stretches.{Stands, word-at, length-taken, padded-stands}
 use Rattle.laws.proofs.Counting.{length-map-counted, counted-allOf}
 use Rattle.laws.proofs.Blocks.{blocks-stand, zero-blocks}
@@ -18,7 +18,7 @@ use Rattle.inverse.proofs.Entries.{Agree, descriptor-few, entry-few, le
 use Rattle.inverse.proofs.Parts.{Proper, Parts, length-entries, length-descriptors}
 use Rattle.inverse.proofs.Formed.{Formed, members-below, members-stand}
 use Rattle.inverse.proofs.Principals.{Standing, entries-differ}
-use Rattle.inverse.proofs.Accesses.{accesses, first-below, descriptors-in, bound-variables}
+use Rattle.inverse.proofs.Accesses.{accessCount, accesses, first-below, descriptors-in, bound-variables}
 
 module _ (ws : List ℕ) (f : Formed ws) where
   abbrev held : Policy
@@ -53,7 +53,9 @@ module _ (ws : List ℕ) (f : Formed ws) where
   each-descriptor d l = descriptor-proper held ws agree d (descriptor-room d l) (f .descriptor d l)
 
   own-descriptors : (k : ℕ) → k < entryCount ws → allOf (properDescriptor held) (accessesOf (entryIn ws k)) ≡ true
-  own-descriptors k l = rw (accesses ws k) (counted-allOf (descriptorIn ws) _ (firstDescriptor ws k) (readCount ws k + writeCount ws k) (λ d p q. each-descriptor d (omega (arith, first-below ws (entryCount ws) k l))))
+  own-descriptors k l =
+      rw (accesses ws k)
+      (counted-allOf (descriptorIn ws) _ (firstDescriptor ws k) (accessCount ws k) (λ d p q. each-descriptor d (omega (arith, first-below ws (entryCount ws) k l))))
 
   each-entry : (k : ℕ) → k < entryCount ws → properEntry held (entryIn ws k) ≡ true
   each-entry k l = entry-proper held ws agree k (entry-room k l) (f .entry k l) (own-descriptors k l) (bound-variables ws (f .bound) k l)

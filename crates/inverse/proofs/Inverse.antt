@@ -9,7 +9,7 @@ use Rattle.paper.specs.Policy.{Policy}
 use Rattle.paper.specs.Table.{wordsOf, policyIn, wellFormed}
 use Rattle.laws.proofs.Stretches.{stands-front, taken-stretch}
 use Rattle.inverse.specs.Proper.{proper}
-use Rattle.inverse.proofs.Parts.{proper-is, is-proper, Parts, table-parts, table-whole, length-words}
+use Rattle.inverse.proofs.Parts.{Proper, proper-is, is-proper, Parts, table-parts, table-whole, length-words}
 use Rattle.inverse.proofs.Reading.{policy-read}
 use Rattle.inverse.proofs.Held.{formed-proper, formed-parts}
 use Rattle.inverse.proofs.Forming.{parts-formed}
@@ -48,7 +48,8 @@ module _ (ws : List ℕ) (h : wellFormed ws ≡ true) where
   pub words-of-policy : take 16384 ws ≡ wordsOf (policyIn ws)
   words-of-policy =
       let f : Formed ws = formed ws h in
-      taken-stretch ws 0 16384 (wordsOf (policyIn ws)) (length-words (policyIn ws) (formed-proper ws f)) (f .long) (table-whole (policyIn ws) (formed-proper ws f) ws (formed-parts ws f))
+      let good : Proper (policyIn ws) = formed-proper ws f in
+      taken-stretch ws 0 16384 (wordsOf (policyIn ws)) (length-words (policyIn ws) good) (f .long) (table-whole (policyIn ws) good ws (formed-parts ws f))
 
 -- two tables that hold one policy hold the same words
 pub tables-agree : (a b : List ℕ) → wellFormed a ≡ true → wellFormed b ≡ true → policyIn a ≡ policyIn b → take 16384 a ≡ take 16384 b

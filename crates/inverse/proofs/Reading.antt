@@ -68,7 +68,8 @@ module _ (p : Policy) (good : Proper p) (ws : List ℕ) (long : 16384 ≤ length
       let first : ℕ = firstDescriptor ws k in
       let fewer : first + length (e .reads ++ e .writes ++ flatMap accessesOf es) ≤ 256 = h .fewDescriptors in
       let s : Stands ws (entryAt k) (entryWords e) = stands-left ws (entryAt k) (entryWords e) _ (h .words) in
-      let r : Stands ws (descriptorAt first) (flatMap descriptorWords (e .reads ++ e .writes)) = blocks-left descriptorWords ws (descriptorAt first) (e .reads ++ e .writes) (flatMap accessesOf es) (h .descriptors) in
+      let r : Stands ws (descriptorAt first) (flatMap descriptorWords (e .reads ++ e .writes)) =
+      blocks-left descriptorWords ws (descriptorAt first) (e .reads ++ e .writes) (flatMap accessesOf es) (h .descriptors) in
       let l1 = length-append (e .reads ++ e .writes) (flatMap accessesOf es) in
       let l2 = length-append (e .reads) (e .writes) in
       let n : firstDescriptor ws (k + 1) ≡ first + length (e .reads ++ e .writes) = next-first k e (entry-parts e (entry-few p e own) ws (entryAt k) s) in (
@@ -84,7 +85,8 @@ module _ (p : Policy) (good : Proper p) (ws : List ℕ) (long : 16384 ≤ length
           fewDescriptors = omega arith;
           each = both-right (properEntry p e) (allOf (properEntry p) es) (h .each);
           words = stands-right ws (entryAt k) (entryAt (k + 1)) (entryWords e) _ (next-block 2080 44 k _ (length-entry e (entry-few p e own))) (h .words);
-          descriptors = rw n (blocks-right descriptorWords ws 7712 32 first (e .reads ++ e .writes) (flatMap accessesOf es) (run-length (e .reads ++ e .writes) run) (h .descriptors));
+          descriptors = rw n
+              (blocks-right descriptorWords ws 7712 32 first (e .reads ++ e .writes) (flatMap accessesOf es) (run-length (e .reads ++ e .writes) run) (h .descriptors));
         },
       )
 

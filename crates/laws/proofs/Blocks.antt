@@ -34,7 +34,8 @@ module _ {A : Type 0} (words : A → List ℕ) where
     pub blocks-right : (base size k : ℕ) (xs ys : List A) → length (flatMap words xs) ≡ size * length xs → Stands ws (base + size * k) (flatMap words (xs ++ ys))
         → Stands ws (base + size * (k + length xs)) (flatMap words ys)
     blocks-right base size k xs ys e s =
-        stands-right ws (base + size * k) (base + size * (k + length xs)) (flatMap words xs) (flatMap words ys) (rw (e, mul-add size k (length xs)) (omega arith)) (rw flatMap-append at s)
+        stands-right ws (base + size * k) (base + size * (k + length xs)) (flatMap words xs) (flatMap words ys)
+        (rw (e, mul-add size k (length xs)) (omega arith)) (rw flatMap-append at s)
 
   module _ (ws : List ℕ) (base size : ℕ) (back : ℕ → A) where
     -- the blocks that `back` counts up stand there if each does, and the other way round
@@ -52,9 +53,11 @@ module _ {A : Type 0} (words : A → List ℕ) where
     unfolding flatMap countUp
     block-stands k zero long s i p q = absurd (omega arith)
     block-stands k (suc n) long s i p q =
+        let next : Stands ws (base + size * (k + 1)) (flatMap words (map back (countUp (k + 1) n))) =
+        stands-right ws (base + size * k) (base + size * (k + 1)) (words (back k)) _ (next-block base size k _ (long k (omega arith) (omega arith))) s in
         ⊎-elim
         (λ (e : k ≡ i). rw e at (stands-left ws (base + size * k) (words (back k)) _ s))
-        (λ (m : k < i). block-stands (k + 1) n (λ j p q. long j (omega arith) (omega arith)) (stands-right ws (base + size * k) (base + size * (k + 1)) (words (back k)) _ (next-block base size k _ (long k (omega arith) (omega arith))) s) i (omega arith) (omega arith))
+        (λ (m : k < i). block-stands (k + 1) n (λ j p q. long j (omega arith) (omega arith)) next i (omega arith) (omega arith))
         (eq-or-lt-of-le p)
 
 -- where blocks n to m are zero, so are all their words

@@ -58,7 +58,9 @@ length-counted k (suc n) = ap suc (length-counted (k + 1) n)
 pub counted-append : (k a b : ℕ) → countUp k (a + b) ≡ countUp k a ++ countUp (k + a) b
 unfolding countUp
 counted-append k zero b = rw (zero-add, add-zero)
-counted-append k (suc a) b = let e : k + 1 + a ≡ k + suc a = omega arith in rw suc-add (ap (λ (l : List ℕ). k ∷ l) (counted-append (k + 1) a b ∙ ap (λ (m : ℕ). countUp (k + 1) a ++ countUp m b) e))
+counted-append k (suc a) b =
+    let e : k + 1 + a ≡ k + suc a = omega arith in
+    rw suc-add (ap (λ (l : List ℕ). k ∷ l) (counted-append (k + 1) a b ∙ ap (λ (m : ℕ). countUp (k + 1) a ++ countUp m b) e))
 
 module _ {A : Type 0} (f : ℕ → A) where
   pub length-map-counted : (k n : ℕ) → length (map f (countUp k n)) ≡ n
@@ -113,7 +115,8 @@ pub allOf-flatMap : {A B : Type 0} (test : B → Bool) (f : A → List B) (xs : 
 unfolding flatMap allOf
 allOf-flatMap test f [] h = refl
 allOf-flatMap test f (x ∷ xs) h =
-    allOf-append test (f x) (flatMap f xs) (both-left (allOf test (f x)) (allOf (λ x. allOf test (f x)) xs) h) (allOf-flatMap test f xs (both-right (allOf test (f x)) (allOf (λ x. allOf test (f x)) xs) h))
+    let own : allOf test (f x) ≡ true = both-left (allOf test (f x)) (allOf (λ x. allOf test (f x)) xs) h in
+    allOf-append test (f x) (flatMap f xs) own (allOf-flatMap test f xs (both-right (allOf test (f x)) (allOf (λ x. allOf test (f x)) xs) h))
 
 counted-one : (k : ℕ) → countUp k 1 ≡ k ∷ []
 unfolding countUp
