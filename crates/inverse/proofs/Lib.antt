@@ -9,3 +9,4 @@ pub mod Accesses
 pub mod Held
 pub mod Forming
 pub mod Inverse
+pub mod Trials

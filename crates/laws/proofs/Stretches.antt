@@ -31,9 +31,6 @@ module _ (ws : List ℕ) where
   pub stands-word : (at i to : ℕ) (xs : List ℕ) → Stands ws at xs → i < length xs → at + i ≡ to → getD ws to 0 ≡ getD xs i 0
   stands-word at i to xs s h e = word-at (at + i) to (getD xs i 0) e (s .reads i h)
 
-  pub stands-moved : (at to : ℕ) (xs : List ℕ) → at ≡ to → Stands ws at xs → Stands ws to xs
-  stands-moved at to xs e s = rw e at s
-
   pub stands-left : (at : ℕ) (xs ys : List ℕ) → Stands ws at (xs ++ ys) → Stands ws at xs
   stands-left at xs ys s = record { reads = λ i h. s .reads i (rw length-append (omega arith)) ∙ List·getD-append xs ys 0 i h }
 
