@@ -1,17 +1,17 @@
 -- Laws of `_&&_`, of `_||_`, and of the paper's tests over numbers and lists.
 use mathlib.Core.Path.{_≡_, refl, sym, ap, _∙_}
-use mathlib.Core.Bool.{Bool, true, false, not, _&&_, _||_}
+use mathlib.Core.Bool.{Bool, true, false, cond, not, _&&_, _||_}
 use mathlib.Core.Logic.{_⊎_, inl, inr, ⊎-elim, dite}
 use mathlib.Core.List.{List, [], _∷_}
 use Prim.Native.Nat.{ℕ, zero, suc, _+_, _<_, _≤_}
 use native.Mathlib.Nat.{le-of-suc-le-suc, not-suc-le-zero, eq-or-lt-of-le}
-use native.Mathlib.Decide.{ℕ-discrete}
 use native.Mathlib.Numerals.{add-one}
+use native.Mathlib.Decide.{ℕ-discrete, decLt}
 use native.Mathlib.Omega.{arith}
-use lib.Dec.{eqb}
+use lib.Dec.{eqb, ltb}
 use lib.ListN.{length, getD, drop, drop-of-length-le}
 use lib.Seq.{drop-cons}
-use borrow.Author.Tests.{eqb-true, eq-eqb, ne-eqb, not-true, not-false}
+use borrow.Author.Tests.{eqb-true, eq-eqb, ne-eqb, lt-ltb, le-ltb, not-true, not-false}
 use Rattle.paper.specs.Common.{upTo, same}
 
 pub both-true : (a b : Bool) → a ≡ true → b ≡ true → (a && b) ≡ true
@@ -157,3 +157,23 @@ test-fails f n i r l e h = sym (upTo-fails f n i l (sym e ∙ not-true r h))
 
 pub tests-done : (f : ℕ → Bool) (n i : ℕ) → n ≤ i → i ≤ n → upTo f i ≡ true → true ≡ upTo f n
 tests-done f n i p q h = sym (upTo-done f n i p q h)
+
+-- ---- one test below n, another from n on
+
+module _ (f g : ℕ → Bool) (n m : ℕ) where
+  pub upTo-first : upTo (λ k. cond (ltb k n) (f k) (g k)) m ≡ true → (k : ℕ) → k < n → k < m → f k ≡ true
+  upTo-first h k p q = rw (lt-ltb k n p) at (upTo-at (λ k. cond (ltb k n) (f k) (g k)) m h k q)
+
+  pub upTo-rest : upTo (λ k. cond (ltb k n) (f k) (g k)) m ≡ true → (k : ℕ) → n ≤ k → k < m → g k ≡ true
+  upTo-rest h k p q = rw (le-ltb k n p) at (upTo-at (λ k. cond (ltb k n) (f k) (g k)) m h k q)
+
+  pub upTo-both : ((k : ℕ) → k < n → k < m → f k ≡ true) → ((k : ℕ) → n ≤ k → k < m → g k ≡ true) → upTo (λ k. cond (ltb k n) (f k) (g k)) m ≡ true
+  upTo-both p q = upTo-all (λ k. cond (ltb k n) (f k) (g k)) m (λ k l. dite (decLt k n)
+      (λ (a : k < n). rw (lt-ltb k n a) (p k a l))
+      (λ (a : ¬ (k < n)). rw (le-ltb k n (omega arith)) (q k (omega arith) l)))
+
+-- two tests that pass together are one
+pub same-test : (a b : Bool) → (a ≡ true → b ≡ true) → (b ≡ true → a ≡ true) → a ≡ b
+same-test true b p q = sym (p refl)
+same-test false true p q = q refl
+same-test false false p q = refl

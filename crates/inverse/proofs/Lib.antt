@@ -1,0 +1,12 @@
+pub mod Contexts
+pub mod Grants
+pub mod Entries
+pub mod Parts
+pub mod Reading
+pub mod Formed
+pub mod Principals
+pub mod Accesses
+pub mod Held
+pub mod Forming
+pub mod Inverse
+pub mod Trials
