@@ -3,7 +3,7 @@ use mathlib.Core.Path.{_≡_, refl, sym, ap, _∙_}
 use mathlib.Core.Bool.{Bool, true}
 use mathlib.Core.Logic.{⊎-elim}
 use mathlib.Core.List.{List, [], _∷_, _++_, map, flatMap, append-nil, append-assoc, map-append}
-use Prim.Native.Nat.{ℕ, zero, suc, _+_, _<_, _≤_}
+use Prim.Native.Nat.{ℕ, zero, suc, _+_, _-_, _<_, _≤_}
 use native.Mathlib.Nat.{zero-add, add-zero, suc-add, not-suc-le-zero, eq-or-lt-of-le}
 use native.Mathlib.Numerals.{add-one}
 use native.Mathlib.Omega.{arith}
@@ -142,3 +142,13 @@ module _ {A B : Type 0} (f : ℕ → A) (run : A → List B) (g : ℕ → B) (st
   pub counted-runs : (n : ℕ) → flatMap run (map f (countUp 0 n)) ≡ map g (countUp 0 (start n))
   counted-runs zero = rw none no-run
   counted-runs (suc n) = last-run n ∙ ap (λ (l : List B). l ++ run (f n)) (counted-runs n) ∙ joined n
+
+-- ---- a loop over counted numbers: what is left of them, i passed of n
+
+pub counted-step : (k n i : ℕ) → i < n → countUp k (n - i) ≡ k ∷ countUp (k + 1) (n - (i + 1))
+unfolding countUp
+counted-step k n i h = let e : n - i ≡ suc (n - (i + 1)) = omega arith in rw e
+
+pub counted-end : (k n i : ℕ) → n ≤ i → countUp k (n - i) ≡ []
+unfolding countUp
+counted-end k n i h = let e : n - i ≡ 0 = omega arith in rw e
