@@ -1,10 +1,69 @@
 // The proved functions for C and Rust: include/dovetenon.h says what each answers.
+use judge::Ids;
+use paper::Verdict;
 ghost use mathlib.Core.Path.{_≡_};
-ghost use Rattle.paper.specs.Table.{wellFormed};
+ghost use Rattle.paper.specs.Table.{wellFormed, policyIn};
+ghost use Rattle.paper.specs.Promises.{judgeEvent, judgeAnswer};
+ghost use Rattle.export.specs.Packed.{verdictPacked};
 
 #[no_mangle]
 pub extern "C" fn dovetenon_well_formed(table: &[u16]) -> bool
     ensures { λ r. ⌜ r ≡ wellFormed (now (table .entry)) ⌝ }
 {
     table::well_formed(table)
+}
+
+fn packed(verdict: Verdict) -> u32
+    ensures { λ r. ⌜ r ≡ verdictPacked verdict ⌝ }
+{
+    match verdict {
+        Verdict::Inside => 0,
+        Verdict::Granted { entry } => 65536 + (entry as u32),
+        Verdict::Violation { number } => 131072 + (number as u32),
+        Verdict::Unjudged { number } => 196608 + (number as u32),
+    }
+}
+
+#[no_mangle]
+pub extern "C" fn dovetenon_judge(
+    table: &[u16],
+    operation: u16,
+    target: u16,
+    stack: &[u16],
+    uid: u32,
+    gid: u32,
+    allocation: &[u16],
+    allocation_uid: u32,
+    allocation_gid: u32,
+) -> u32
+    ensures { λ r. ⌜ r ≡ verdictPacked (judgeAnswer (now (table .entry)) operation target (record { stack = now (stack .entry); uid = uid; gid = gid }) (record { stack = now (allocation .entry); uid = «allocation_uid»; gid = «allocation_gid» })) ⌝ }
+{
+    let ids = Ids { uid: uid, gid: gid };
+    let allocated = Ids {
+        uid: allocation_uid,
+        gid: allocation_gid,
+    };
+    packed(judge::judge_event(table, operation, target, stack, ids, allocation, allocated))
+}
+
+#[no_mangle]
+pub extern "C" fn dovetenon_judge_known(
+    table: &[u16],
+    operation: u16,
+    target: u16,
+    stack: &[u16],
+    uid: u32,
+    gid: u32,
+    allocation: &[u16],
+    allocation_uid: u32,
+    allocation_gid: u32,
+) -> u32
+    ensures { λ r. ⌜ r ≡ verdictPacked (judgeEvent (policyIn (now (table .entry))) operation target (record { stack = now (stack .entry); uid = uid; gid = gid }) (record { stack = now (allocation .entry); uid = «allocation_uid»; gid = «allocation_gid» })) ⌝ }
+{
+    let ids = Ids { uid: uid, gid: gid };
+    let allocated = Ids {
+        uid: allocation_uid,
+        gid: allocation_gid,
+    };
+    packed(judge::judge_known(table, operation, target, stack, ids, allocation, allocated))
 }
