@@ -8,6 +8,7 @@ pub mod damage;
 pub mod dice;
 pub mod draft;
 pub mod events;
+pub mod full;
 pub mod limits;
 pub mod stored;
 pub mod tables;

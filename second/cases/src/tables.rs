@@ -15,11 +15,26 @@ pub fn table(dice: &mut Dice) -> Vec<u16> {
     if dice.percent(20) {
         damage(dice, &mut words);
     }
+    add_past(dice, &mut words);
+    words
+}
+
+/// At times adds words past the table, which are never looked at.
+fn add_past(dice: &mut Dice, words: &mut Vec<u16>) {
     if dice.percent(10) {
-        // What lies past the table is never looked at.
         let more = dice.from_to(1, 9);
         words.extend((0..more).map(|_| dice.next() as u16));
     }
+}
+
+/// A well-formed table, with words past its end at times.
+pub fn sound_table(dice: &mut Dice) -> Vec<u16> {
+    let mut words = loop {
+        if let Some(words) = encode(&policy(dice)) {
+            break words;
+        }
+    };
+    add_past(dice, &mut words);
     words
 }
 

@@ -1,28 +1,20 @@
 //! Runs the proved functions and the plain ones on the same generated inputs
 //! and stops at the first difference.
 //!
-//! There is one module for each function. It takes the proved function as a
-//! value, so that a stand-in can be compared too; `proved` alone knows the C
-//! functions.
-#![deny(unsafe_code)]
+//! The proved functions are called over the bridge, a small C program beside
+//! this workspace's crates. There is one module for each sort of function: it
+//! makes a case, asks for it, and checks the replies.
+#![forbid(unsafe_code)]
 
-pub mod fill;
+pub mod bridge;
 pub mod judge;
 pub mod lent;
-pub mod lookup;
 pub mod overlap;
 pub mod page;
-#[cfg(any(
-    feature = "well_formed",
-    feature = "judge",
-    feature = "overlap",
-    feature = "page"
-))]
-pub mod proved;
-pub mod read;
-pub mod rows;
 pub mod run;
 pub mod show;
 pub mod well_formed;
+pub mod wire;
 
-pub use run::{run, Options, Row};
+pub use bridge::Bridge;
+pub use run::{run, Options};

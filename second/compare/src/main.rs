@@ -1,7 +1,7 @@
 //! `compare`: see the README of this workspace.
 #![forbid(unsafe_code)]
 
-use compare::{rows::rows, run, Options};
+use compare::{run, Bridge, Options};
 use std::process::ExitCode;
 
 fn main() -> ExitCode {
@@ -13,7 +13,15 @@ fn main() -> ExitCode {
             return ExitCode::from(2);
         }
     };
-    match run(&rows(), &options, &mut std::io::stdout().lock()) {
+    let command = compare::bridge::command(options.bridge.as_deref());
+    let mut bridge = match Bridge::start(command) {
+        Ok(bridge) => bridge,
+        Err(fault) => {
+            eprintln!("{fault}");
+            return ExitCode::from(2);
+        }
+    };
+    match run(&mut bridge, &options, &mut std::io::stdout().lock()) {
         Ok(true) => ExitCode::SUCCESS,
         Ok(false) => ExitCode::FAILURE,
         Err(error) => {

@@ -1,33 +1,48 @@
 //! `overlap`: a table to its first clashing pair and a witness.
 
-use crate::lent::Lent;
-use crate::run::{Options, Outcome};
+use crate::lent::{Lent, Value};
+use crate::run::{Check, Options};
 use crate::show;
+use crate::wire::{Call, Function, Replies, Requests};
 use cases::{tables, Dice};
 use second::policy::{Policy, Uid};
 use second::{decode, matches, overlap, WITNESS_WORDS};
 
-/// Table and witness.
-pub type Proved<'f> = &'f dyn Fn(&[u16], &mut [u16]) -> u64;
+const TABLE: u32 = 0;
+const WITNESS: u32 = 1;
 
-const CANARY: u16 = 0xC3DE;
-
-pub fn one(dice: &mut Dice, options: &Options, proved: Proved<'_>) -> Outcome {
+pub fn ask(dice: &mut Dice, options: &Options, requests: &mut Requests) -> Check {
     let words = tables::table(dice);
     let room = *dice.pick(&[0, 1, 31, 32, 32, 32, 32, 32, 33, 33, 40, 100]);
-    let table = Lent::new(&words, 0xC0DE);
-    let before = vec![CANARY; room];
-    let mut witness = Lent::new(&before, CANARY);
-    let answer = proved(table.get(), witness.get_mut());
-    let mut expected = before;
-    let plain = overlap(&words, &mut expected).packed();
-    check(&words, &witness, answer, &expected, plain, options)
-        .and_then(|()| table.check("table", &words))
-        .map_err(|fault| {
+    let before = vec![u16::CANARY; room];
+    requests.lend(TABLE, &words);
+    requests.lend(WITNESS, &before);
+    requests.call(&Call::new(Function::Overlap, &[TABLE, WITNESS], &[]));
+    requests.show(WITNESS);
+    requests.show(TABLE);
+    let exact = options.exact_witness;
+    Box::new(move |replies, mix| {
+        let mut expected = before;
+        let plain = overlap(&words, &mut expected).packed();
+        check_replies(&words, &expected, plain, exact, replies).map_err(|fault| {
             let room = format!("witness of {room} words");
             show::difference(&[show::table(&words), room], fault)
         })?;
-    Ok(name(plain))
+        mix.count(name(plain));
+        Ok(())
+    })
+}
+
+fn check_replies(
+    table: &[u16],
+    expected: &[u16],
+    plain: u64,
+    exact: bool,
+    replies: &mut Replies<'_>,
+) -> Result<(), String> {
+    let answer = replies.answer()?;
+    check(table, &replies.shown()?, answer, expected, plain, exact)?;
+    replies.shown()?.check("table", table)
 }
 
 fn check(
@@ -36,10 +51,10 @@ fn check(
     answer: u64,
     expected: &[u16],
     plain: u64,
-    options: &Options,
+    exact: bool,
 ) -> Result<(), String> {
     let is_clash = |packed: u64| packed >> 32 & 0xFF != 0;
-    if options.exact_witness || !is_clash(plain) {
+    if exact || !is_clash(plain) {
         show::equal(told(answer), told(plain))?;
         witness.check("witness", expected)?;
     }

@@ -1,11 +1,15 @@
-//! Runs the rows, case by case, until a difference.
+//! Runs the functions, case by case, until a difference.
 
+use crate::bridge::Bridge;
+use crate::wire::{Function, Replies, Requests};
+use crate::{judge, overlap, page, well_formed};
 use cases::Dice;
 use std::collections::BTreeMap;
 use std::io::{self, Write};
+use std::ops::Range;
 
 pub const USAGE: &str = "usage: compare [--seed N] [--count N] [--from N] [--only NAME] \
-[--exact-witness on|off]";
+[--need NAME,NAME] [--exact-witness on|off] [--bridge COMMAND]";
 
 #[derive(Clone, Debug, PartialEq, Eq)]
 pub struct Options {
@@ -14,8 +18,12 @@ pub struct Options {
     /// The first case.
     pub from: u64,
     pub only: Option<String>,
+    /// Functions without which nothing is compared.
+    pub need: Vec<String>,
     /// Whether the witness must be the lowest of the shortest.
     pub exact_witness: bool,
+    /// The command that runs the bridge, if not the usual one.
+    pub bridge: Option<String>,
 }
 
 impl Default for Options {
@@ -25,7 +33,9 @@ impl Default for Options {
             count: 10_000,
             from: 0,
             only: None,
+            need: Vec::new(),
             exact_witness: true,
+            bridge: None,
         }
     }
 }
@@ -41,7 +51,11 @@ impl Options {
                 "--seed" => options.seed = number()?,
                 "--count" => options.count = number()?,
                 "--from" => options.from = number()?,
-                "--only" => options.only = Some(value.clone()),
+                "--only" => options.only = Some(known(value)?),
+                "--need" => {
+                    options.need = value.split(',').map(known).collect::<Result<_, _>>()?;
+                }
+                "--bridge" => options.bridge = Some(value.clone()),
                 "--exact-witness" => match value.as_str() {
                     "on" => options.exact_witness = true,
                     "off" => options.exact_witness = false,
@@ -54,60 +68,210 @@ impl Options {
     }
 }
 
-/// The outcome of an equal case, or inputs and answers of a difference.
-pub type Outcome = Result<String, String>;
-
-/// A function that can be compared: its name, and how to run one case.
-pub struct Row {
-    pub name: &'static str,
-    pub run: fn(&mut Dice, &Options) -> Outcome,
+/// The name of a function.
+fn known(name: &str) -> Result<String, String> {
+    let names = Function::ALL.map(Function::name);
+    match names.contains(&name) {
+        true => Ok(name.to_string()),
+        false => Err(format!("{name} is none of: {}", names.join(", "))),
+    }
 }
 
-/// Runs every row asked for. False when a difference was found.
-pub fn run(rows: &[Row], options: &Options, out: &mut dyn Write) -> io::Result<bool> {
-    if rows.is_empty() {
-        writeln!(out, "nothing to compare yet")?;
-        return Ok(true);
+/// How often each outcome came.
+#[derive(Debug, Default)]
+pub struct Mix {
+    counts: BTreeMap<String, u64>,
+}
+
+impl Mix {
+    pub fn count(&mut self, outcome: impl ToString) {
+        *self.counts.entry(outcome.to_string()).or_default() += 1;
     }
-    let asked = |row: &&Row| options.only.as_deref().is_none_or(|name| name == row.name);
-    let chosen: Vec<&Row> = rows.iter().filter(asked).collect();
-    if chosen.is_empty() {
-        let names: Vec<&str> = rows.iter().map(|row| row.name).collect();
-        writeln!(
-            out,
-            "no such function here; there are: {}",
-            names.join(", ")
-        )?;
+}
+
+/// Checks the replies to one case: nothing, or inputs and answers of a
+/// difference.
+pub type Check = Box<dyn FnOnce(&mut Replies<'_>, &mut Mix) -> Result<(), String>>;
+
+/// Makes one case and asks for it.
+type Ask = fn(&mut Dice, &Options, &mut Requests) -> Check;
+
+fn ask(function: Function) -> Ask {
+    match function {
+        Function::WellFormed => well_formed::ask,
+        Function::Judge => judge::ask,
+        Function::JudgeKnown => judge::ask_known,
+        Function::Overlap => overlap::ask,
+        Function::Page => page::ask,
+    }
+}
+
+/// Compares every function asked for that is there. False when a difference
+/// was found, a function is missing that is needed, or nothing was compared.
+pub fn run(bridge: &mut Bridge, options: &Options, out: &mut dyn Write) -> io::Result<bool> {
+    let named = |function: &Function, name: &String| name == function.name();
+    let needed = |f: &Function| options.need.iter().any(|name| named(f, name));
+    let asked = |f: &Function| options.only.iter().all(|name| named(f, name));
+    let mut missing = Function::ALL
+        .iter()
+        .filter(|f| needed(f) && !bridge.has(**f));
+    if let Some(function) = missing.next() {
+        writeln!(out, "{}: needed, and not there", function.name())?;
         return Ok(false);
     }
-    for row in chosen {
-        if !run_row(row, options, out)? {
+    let mut compared = false;
+    for function in Function::ALL.into_iter().filter(asked) {
+        if !bridge.has(function) {
+            writeln!(out, "{}: not there yet", function.name())?;
+        } else if run_function(bridge, function, options, out)? {
+            compared = true;
+        } else {
             return Ok(false);
         }
     }
-    Ok(true)
+    if !compared {
+        writeln!(out, "nothing was compared")?;
+    }
+    Ok(compared)
 }
 
-fn run_row(row: &Row, options: &Options, out: &mut dyn Write) -> io::Result<bool> {
-    let mut mix: BTreeMap<String, u64> = BTreeMap::new();
-    for case in options.from..options.from.saturating_add(options.count) {
-        match (row.run)(&mut Dice::of_case(options.seed, case), options) {
-            Ok(outcome) => *mix.entry(outcome).or_default() += 1,
-            Err(difference) => {
-                let (name, seed) = (row.name, options.seed);
-                writeln!(out, "{name}: difference at seed {seed}, case {case}")?;
-                writeln!(out, "{difference}")?;
-                writeln!(
-                    out,
-                    "replay: --only {name} --seed {seed} --from {case} --count 1"
-                )?;
-                return Ok(false);
+/// A case at which the programs differ, and how.
+struct Difference {
+    case: u64,
+    told: String,
+}
+
+fn run_function(
+    bridge: &mut Bridge,
+    function: Function,
+    options: &Options,
+    out: &mut dyn Write,
+) -> io::Result<bool> {
+    let (name, seed) = (function.name(), options.seed);
+    let cases = options.from..options.from.saturating_add(options.count);
+    let mut mix = Mix::default();
+    match run_cases(bridge, function, options, cases, &mut mix) {
+        Ok(()) => {
+            writeln!(out, "{name}: {} cases equal", options.count)?;
+            for (outcome, count) in mix.counts {
+                writeln!(out, "  {outcome}: {count}")?;
             }
+            Ok(true)
+        }
+        Err(Difference { case, told }) => {
+            let witness = match options.exact_witness {
+                true => "",
+                false => " --exact-witness off",
+            };
+            writeln!(out, "{name}: difference at seed {seed}, case {case}")?;
+            writeln!(out, "{told}")?;
+            writeln!(
+                out,
+                "replay: --only {name} --seed {seed} --from {case} --count 1{witness}"
+            )?;
+            Ok(false)
         }
     }
-    writeln!(out, "{}: {} cases equal", row.name, options.count)?;
-    for (outcome, count) in mix {
-        writeln!(out, "  {outcome}: {count}")?;
+}
+
+/// Cases that go over the bridge together.
+struct Round {
+    cases: Range<u64>,
+    requests: Requests,
+    checks: Vec<Check>,
+}
+
+/// A round is full when it has so many bytes.
+const FULL: usize = 1 << 20;
+
+impl Round {
+    /// The first of these cases, until the round is full.
+    fn of(function: Function, options: &Options, cases: Range<u64>, full: usize) -> Round {
+        let mut requests = Requests::default();
+        let mut checks = Vec::new();
+        let mut end = cases.start;
+        while end < cases.end && requests.bytes().len() < full {
+            let mut dice = Dice::of_case(options.seed, end);
+            checks.push(ask(function)(&mut dice, options, &mut requests));
+            end += 1;
+        }
+        Round {
+            cases: cases.start..end,
+            requests,
+            checks,
+        }
     }
-    Ok(true)
+
+    /// Sends the requests, if there is a case.
+    fn send(&mut self, bridge: &mut Bridge) {
+        if !self.checks.is_empty() {
+            bridge.send(std::mem::take(&mut self.requests));
+        }
+    }
+
+    fn check(self, mut replies: Replies<'_>, mix: &mut Mix) -> Result<(), Difference> {
+        for (case, check) in self.cases.zip(self.checks) {
+            check(&mut replies, mix).map_err(|told| Difference { case, told })?;
+        }
+        Ok(())
+    }
+}
+
+/// The bridge works on one round while the next is made and the last checked.
+fn run_cases(
+    bridge: &mut Bridge,
+    function: Function,
+    options: &Options,
+    cases: Range<u64>,
+    mix: &mut Mix,
+) -> Result<(), Difference> {
+    let mut round = Round::of(function, options, cases.clone(), FULL);
+    round.send(bridge);
+    while !round.checks.is_empty() {
+        let mut next = Round::of(function, options, round.cases.end..cases.end, FULL);
+        let replies = match bridge.receive() {
+            Ok(replies) => replies,
+            Err(ended) => return Err(find_end(bridge, function, options, round.cases, ended)),
+        };
+        next.send(bridge);
+        round.check(Replies::new(&replies), mix)?;
+        round = next;
+    }
+    Ok(())
+}
+
+/// The bridge ended in one of these cases: finds it, each case in its own
+/// bridge.
+fn find_end(
+    bridge: &mut Bridge,
+    function: Function,
+    options: &Options,
+    cases: Range<u64>,
+    ended: String,
+) -> Difference {
+    for case in cases.clone() {
+        let mut round = Round::of(function, options, case..case + 1, FULL);
+        let replies = bridge.restart().and_then(|()| {
+            round.send(bridge);
+            bridge.receive()
+        });
+        let mut mix = Mix::default();
+        let checked = match &replies {
+            Ok(replies) => round.check(Replies::new(replies), &mut mix),
+            Err(ended) => {
+                let fault = format!("proved: {ended}, here or later in this case");
+                round.check(Replies::none(fault), &mut mix)
+            }
+        };
+        if let Err(difference) = checked {
+            return difference;
+        }
+    }
+    Difference {
+        case: cases.start,
+        told: format!(
+            "{ended}, in this case or up to case {}, but in none alone",
+            cases.end - 1
+        ),
+    }
 }
