@@ -68,9 +68,10 @@ impl<T: Value> Lent<T> {
 
     /// What those bytes are, if they are long enough.
     pub fn of(bytes: &[u8]) -> Option<Lent<T>> {
-        let good = bytes.len() >= 2 * Lent::<T>::guard() && bytes.len() % T::SIZE == 0;
+        let values = bytes.chunks_exact(T::SIZE);
+        let good = bytes.len() >= 2 * Lent::<T>::guard() && values.remainder().is_empty();
         good.then(|| Lent {
-            all: bytes.chunks_exact(T::SIZE).map(T::get).collect(),
+            all: values.map(T::get).collect(),
         })
     }
 
