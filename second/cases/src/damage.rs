@@ -1,0 +1,346 @@
+//! Faults put into good files: in the draft, in the lines, in the bytes.
+
+use crate::dice::Dice;
+use crate::draft::{entry, Access, Context, Draft, Grant};
+
+/// One fault in what a file says: repeats, unknown names, unbound variables,
+/// equal principals, malformed scalars.
+pub fn draft(dice: &mut Dice, draft: &mut Draft) {
+    match dice.below(9) {
+        0 => repeat_name(dice, draft),
+        1 => repeat_member(dice, draft),
+        2 | 3 => list_name(dice, draft),
+        4 | 5 => variable(dice, draft),
+        6 => repeat_entry(dice, draft),
+        7 => element(dice, draft),
+        _ => scalar(dice, draft),
+    }
+}
+
+fn repeat_name(dice: &mut Dice, draft: &mut Draft) {
+    let names: Vec<String> = draft
+        .objects
+        .iter()
+        .chain(&draft.subjects)
+        .map(|d| d.name.clone())
+        .collect();
+    let map = if dice.percent(50) {
+        &mut draft.objects
+    } else {
+        &mut draft.subjects
+    };
+    if !map.is_empty() && !names.is_empty() {
+        let place = dice.below(map.len());
+        map[place].name = dice.pick(&names).clone();
+    }
+}
+
+fn repeat_member(dice: &mut Dice, draft: &mut Draft) {
+    let map = if dice.percent(50) {
+        &mut draft.objects
+    } else {
+        &mut draft.subjects
+    };
+    let members: Vec<String> = map.iter().flat_map(|d| d.members.clone()).collect();
+    if !members.is_empty() {
+        let place = dice.below(map.len());
+        map[place].members.push(dice.pick(&members).clone());
+    }
+}
+
+/// Every list of names in the entries.
+fn lists(draft: &mut Draft) -> Vec<&mut Vec<String>> {
+    let mut all = Vec::new();
+    for entry in &mut draft.entries {
+        let mut grants = vec![&mut entry.can_call, &mut entry.can_return];
+        for access in [&mut entry.can_read, &mut entry.can_write] {
+            if let Access::Items(items) = access {
+                grants.extend(items.iter_mut().map(|item| &mut item.objects));
+            }
+        }
+        for grant in grants {
+            if let Grant::List(names) = grant {
+                all.push(names);
+            }
+        }
+    }
+    all
+}
+
+/// A name twice in a list, of the other map, unknown or malformed.
+fn list_name(dice: &mut Dice, draft: &mut Draft) {
+    let known: Vec<String> = draft
+        .objects
+        .iter()
+        .chain(&draft.subjects)
+        .map(|d| d.name.clone())
+        .collect();
+    let mut lists = lists(draft);
+    if lists.is_empty() {
+        return;
+    }
+    let place = dice.below(lists.len());
+    let list = &mut lists[place];
+    let name = match dice.below(6) {
+        0 | 1 if !list.is_empty() => dice.pick(list).clone(),
+        2 | 3 if !known.is_empty() => dice.pick(&known).clone(),
+        4 => dice.word(&["all", "a-b", "", "[x]", "é"]).to_string(),
+        _ => "Nowhere".to_string(),
+    };
+    let at = dice.below(list.len() + 1);
+    list.insert(at, name);
+}
+
+/// Every context in the entries.
+fn contexts(draft: &mut Draft) -> Vec<&mut Context> {
+    let mut all = Vec::new();
+    for entry in &mut draft.entries {
+        all.push(&mut entry.context);
+        for access in [&mut entry.can_read, &mut entry.can_write] {
+            if let Access::Items(items) = access {
+                all.extend(items.iter_mut().map(|item| &mut item.context));
+            }
+        }
+    }
+    all
+}
+
+fn variable(dice: &mut Dice, draft: &mut Draft) {
+    let word = dice
+        .word(&["U", "V", "W", "all", "root", "user", "a-b", ""])
+        .to_string();
+    let mut contexts = contexts(draft);
+    if contexts.is_empty() {
+        return;
+    }
+    let place = dice.below(contexts.len());
+    let (mut new_uid, mut new_gid) = (None, None);
+    if dice.percent(50) {
+        new_uid = Some(word);
+    } else {
+        new_gid = Some(word);
+    }
+    match &mut *contexts[place] {
+        Context::Keys { uid, gid, .. } => {
+            *uid = new_uid.or(uid.take());
+            *gid = new_gid.or(gid.take());
+        }
+        other => {
+            *other = Context::Keys {
+                call_context: None,
+                uid: new_uid,
+                gid: new_gid,
+            }
+        }
+    }
+}
+
+/// An entry again, its grants changed; perhaps its defaults written out.
+fn repeat_entry(dice: &mut Dice, draft: &mut Draft) {
+    if draft.entries.is_empty() {
+        return;
+    }
+    let old = dice.pick(&draft.entries).clone();
+    let mut new = entry(dice, draft);
+    new.subject = old.subject;
+    new.context = match old.context {
+        Context::Omitted | Context::All if dice.percent(60) => Context::Keys {
+            call_context: Some(vec!["all".to_string()]),
+            uid: None,
+            gid: Some("all".to_string()),
+        },
+        context => context,
+    };
+    let at = dice.below(draft.entries.len() + 1);
+    draft.entries.insert(at, new);
+}
+
+fn element(dice: &mut Dice, draft: &mut Draft) {
+    let word = dice
+        .word(&["m.c|nowhere", "any", "Main", "all", "m.c|", "all|all"])
+        .to_string();
+    let mut contexts = contexts(draft);
+    if contexts.is_empty() {
+        return;
+    }
+    let place = dice.below(contexts.len());
+    if let Context::Keys {
+        call_context: Some(elements),
+        ..
+    } = &mut *contexts[place]
+    {
+        let at = dice.below(elements.len() + 1);
+        elements.insert(at, word);
+    }
+}
+
+fn scalar(dice: &mut Dice, draft: &mut Draft) {
+    const WORDS: [&str; 16] = [
+        "all",
+        "a-b",
+        "a b",
+        "'a'",
+        "m|f",
+        "GLOBAL|a|0|n",
+        "GLOBAL|a|1|",
+        "HEAP|a|1|n",
+        "OTHER||",
+        "OTHER||01|",
+        "STACK_FRAME|a|1|n",
+        "IO|a|1000000|n",
+        "m.c|a|b",
+        "|f",
+        "-|f",
+        "a:b",
+    ];
+    let word = dice.word(&WORDS).to_string();
+    let map = if dice.percent(50) {
+        &mut draft.objects
+    } else {
+        &mut draft.subjects
+    };
+    if !map.is_empty() {
+        let place = dice.below(map.len());
+        match dice.below(3) {
+            0 => map[place].name = word,
+            _ => map[place].members.push(word),
+        }
+    }
+}
+
+const KEYS: [&str; 14] = [
+    "object_map",
+    "subject_map",
+    "privileges",
+    "name",
+    "objects",
+    "subjects",
+    "principal",
+    "subject",
+    "execution_context",
+    "call_context",
+    "uid",
+    "gid",
+    "can_read",
+    "object_context",
+];
+
+const VALUES: [&str; 26] = [
+    "",
+    " ",
+    " all",
+    " []",
+    " [all]",
+    " [ ]",
+    " root",
+    " user",
+    " any",
+    " [any]",
+    " 0",
+    " [",
+    " ]",
+    " [a,b]",
+    " [a, ]",
+    " [, a]",
+    " [[a]]",
+    " [a]x",
+    " a:b",
+    " a # c",
+    "[]",
+    "  []",
+    " {}",
+    " 'a'",
+    " [a,  b]",
+    " [m.c|main, all]",
+];
+
+/// One fault in the lines.
+pub fn lines(dice: &mut Dice, lines: &mut Vec<String>) {
+    if lines.is_empty() {
+        return;
+    }
+    let at = dice.below(lines.len());
+    let other = dice.below(lines.len());
+    let after = (at + 1) % lines.len();
+    let line = lines[at].clone();
+    let colon = line.find(':').unwrap_or(line.len());
+    match dice.below(12) {
+        0 => drop(lines.remove(at)),
+        1 => lines.insert(other, line),
+        2 => lines.swap(at, other),
+        3 => lines.swap(at, after),
+        4 => lines[at].push(' '),
+        5 => lines[at].insert_str(0, dice.word(&[" ", "  ", "- ", "#", "    "])),
+        6 => {
+            lines[at] = line
+                .strip_prefix(dice.word(&[" ", "  ", "- ", "  - "]))
+                .unwrap_or(&line)
+                .to_string()
+        }
+        7 | 8 => lines[at] = format!("{}:{}", &line[..colon], dice.word(&VALUES)),
+        9 => lines[at] = rekey(dice, &line, colon),
+        10 => lines[at] = respace(dice, &line),
+        _ => lines.truncate(at),
+    }
+}
+
+/// Another key at the same column.
+fn rekey(dice: &mut Dice, line: &str, colon: usize) -> String {
+    let start = line
+        .find(|c: char| c != ' ' && c != '-')
+        .unwrap_or(0)
+        .min(colon);
+    let key = match dice.below(4) {
+        0 => "can_call",
+        1 => "strange",
+        _ => dice.word(&KEYS),
+    };
+    format!("{}{key}{}", &line[..start], &line[colon..])
+}
+
+/// A list's spaces and brackets, or the space after the colon, changed.
+fn respace(dice: &mut Dice, line: &str) -> String {
+    let changes = [
+        (", ", ","),
+        (", ", ",  "),
+        ("[", "[ "),
+        ("]", " ]"),
+        ("]", ", ]"),
+        ("]", ",]"),
+        ("[", "[, "),
+        ("[", "[["),
+        ("]", "]]"),
+        (": ", ":"),
+        (": ", ":  "),
+        (": ", " : "),
+        ("- ", "-  "),
+        ("- ", "-"),
+        ("]", ""),
+        ("[", ""),
+        ("|", "||"),
+        ("|", ""),
+    ];
+    let (from, to) = dice.pick(&changes);
+    line.replacen(from, to, 1)
+}
+
+/// One fault in the bytes.
+pub fn bytes(dice: &mut Dice, text: &mut Vec<u8>) {
+    const BYTES: [u8; 22] = [
+        b' ', b' ', b'\n', b'\n', b'-', b':', b'#', b',', b'[', b']', b'|', b'a', b'0', b'"', b'{',
+        b'_', b'~', b'\r', b'\t', 0x7F, 0x80, 0,
+    ];
+    let byte = *dice.pick(&BYTES);
+    let at = dice.below(text.len());
+    match dice.below(9) {
+        0 if text.last() == Some(&b'\n') => drop(text.pop()),
+        1 => text.extend_from_slice(
+            dice.word(&["# c", "  ", "more: []\n", " ", "      # c"])
+                .as_bytes(),
+        ),
+        2 => text.truncate(at),
+        3 | 4 if !text.is_empty() => drop(text.remove(at)),
+        5 | 6 if !text.is_empty() => text[at] = byte,
+        _ => text.insert(at, byte),
+    }
+}

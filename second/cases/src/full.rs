@@ -1,0 +1,98 @@
+//! A table with every entry and descriptor it has room for, and events whose
+//! top function is the subject of all of them: what a judge is timed on.
+
+use crate::dice::Dice;
+use crate::events::OwnEvent;
+use second::policy::{
+    first_repeat, Context, Descriptor, Element, Entry, Gid, Grant, Policy, Uid, DESCRIPTORS,
+    DOMAINS, ELEMENTS, ENTRIES, MEMBERS,
+};
+
+/// The functions that patterns and stacks are made of.
+const POOL: usize = 8;
+
+pub fn policy(dice: &mut Dice) -> Policy {
+    let domain = |member: usize| (member % DOMAINS) as u16;
+    let members: Vec<u16> = (0..MEMBERS).map(domain).collect();
+    let mut policy = Policy {
+        object_domains: DOMAINS as u16,
+        subject_domains: DOMAINS as u16,
+        objects: members.clone(),
+        functions: members,
+        entries: Vec::new(),
+    };
+    while policy.entries.len() < ENTRIES {
+        policy.entries.push(entry(dice));
+        if first_repeat(&policy.entries).is_some() {
+            policy.entries.pop();
+        }
+    }
+    policy
+}
+
+fn entry(dice: &mut Dice) -> Entry {
+    let context = Context {
+        pattern: pattern(dice),
+        uid: *dice.pick(&[Uid::All, Uid::Variable, Uid::Root, Uid::User]),
+        gid: *dice.pick(&[Gid::All, Gid::Variable]),
+    };
+    // Its variables are those of the entry, so they are bound.
+    let mut some = || {
+        let one = |_| Descriptor {
+            objects: grant(dice),
+            context: Context {
+                pattern: pattern(dice),
+                ..context
+            },
+        };
+        (0..DESCRIPTORS / ENTRIES / 2).map(one).collect()
+    };
+    let (can_read, can_write) = (some(), some());
+    Entry {
+        subject: 0,
+        can_call: grant(dice),
+        can_return: grant(dice),
+        can_read,
+        can_write,
+        context,
+    }
+}
+
+fn pattern(dice: &mut Dice) -> Vec<Element> {
+    let length = dice.from_to(2, ELEMENTS);
+    let one = |_| match dice.percent(50) {
+        true => Element::All,
+        false => Element::Function(dice.below(POOL) as u16),
+    };
+    (0..length).map(one).collect()
+}
+
+fn grant(dice: &mut Dice) -> Grant {
+    let domains = (0..DOMAINS as u16).filter(|_| dice.percent(5));
+    Grant::Domains(domains.collect())
+}
+
+/// An event with so many frames on its stack, and on its allocation stack if
+/// it has one.
+pub fn event(dice: &mut Dice, frames: usize) -> OwnEvent {
+    let stack =
+        |dice: &mut Dice| -> Vec<u16> { (0..frames).map(|_| dice.below(POOL) as u16).collect() };
+    let mut running = stack(dice);
+    if let Some(top) = running.last_mut() {
+        *top = 0;
+    }
+    let (uid, gid) = (dice.below(2) as u32, dice.below(2) as u32);
+    OwnEvent {
+        operation: dice.from_to(1, 4) as u16,
+        target: dice.below(MEMBERS) as u16,
+        stack: running,
+        uid,
+        gid,
+        allocation: match dice.percent(50) {
+            true => stack(dice),
+            false => Vec::new(),
+        },
+        allocation_uid: uid,
+        allocation_gid: gid,
+    }
+}

@@ -1,0 +1,18 @@
+//! Cases for the second program: texts, events and tables from a seed.
+//!
+//! The same seed gives the same cases on every machine. Values come from
+//! small pools, so that matches, clashes, grants and repeats happen often.
+#![forbid(unsafe_code)]
+
+pub mod damage;
+pub mod dice;
+pub mod draft;
+pub mod events;
+pub mod full;
+pub mod limits;
+pub mod stored;
+pub mod tables;
+pub mod texts;
+pub mod write;
+
+pub use dice::Dice;

@@ -1,0 +1,204 @@
+//! Files at each limit of document 01 and one past it.
+
+use crate::draft::{Access, Context, Domain, Draft, Entry, Grant, Item};
+use crate::write;
+
+/// How many limits there are.
+pub const LIMITS: usize = 15;
+
+/// How many of them a draft can show; the others are about whole texts.
+pub const DRAFT_LIMITS: usize = 12;
+
+/// A draft at a limit, or one past it, and the refusal number it then gets.
+pub fn draft(limit: usize, past: bool) -> (Draft, u16) {
+    let more = usize::from(past);
+    let mut draft = base();
+    let number = match limit % DRAFT_LIMITS {
+        0 => domains(&mut draft.objects, 128 + more),
+        1 => domains(&mut draft.subjects, 128 + more),
+        2 => members(&mut draft.objects, 1_024 + more, "GLOBAL|m|1|o"),
+        3 => members(&mut draft.subjects, 1_024 + more, "m|f"),
+        4 => entries(&mut draft, 128 + more),
+        5 => elements(&mut draft.entries[0].context, 16 + more),
+        6 => object_elements(&mut draft, 16 + more),
+        7 => descriptors(&mut draft, 256 + more),
+        8 => name(&mut draft, 64 + more),
+        9 => variable(&mut draft, 64 + more),
+        10 => identifier(&mut draft, 128 + more),
+        _ => line_number(&mut draft, past),
+    };
+    (draft, if past { number } else { 0 })
+}
+
+/// A text at a limit, or one past it, and the refusal number it then gets
+/// from the filler.
+pub fn text(limit: usize, past: bool) -> (Vec<u8>, u16) {
+    let more = usize::from(past);
+    match limit % LIMITS {
+        12 => (long_text(&base(), 65_536 + more), 2 * u16::from(past)),
+        13 => (long_filled(65_536 + more), 31 * u16::from(past)),
+        14 => (vec![b'\n'; 65_536 + more], if past { 2 } else { 4 }),
+        limit => {
+            let (draft, number) = draft(limit, past);
+            (write::text(&write::lines(&draft)), number)
+        }
+    }
+}
+
+fn domain(name: &str, members: &[&str]) -> Domain {
+    Domain {
+        name: name.to_string(),
+        members: members.iter().map(|m| m.to_string()).collect(),
+    }
+}
+
+fn keys(pattern: Vec<String>) -> Context {
+    Context::Keys {
+        call_context: Some(pattern),
+        uid: Some("U".to_string()),
+        gid: None,
+    }
+}
+
+fn entry(pattern: Vec<String>) -> Entry {
+    Entry {
+        subject: "S".to_string(),
+        context: keys(pattern),
+        can_call: Grant::List(vec!["S".to_string()]),
+        can_return: Grant::Omitted,
+        can_read: Access::Empty,
+        can_write: Access::Bare,
+    }
+}
+
+fn base() -> Draft {
+    Draft {
+        objects: vec![domain("O", &["OTHER|||"])],
+        subjects: vec![domain("S", &["s|a", "s|b"])],
+        entries: vec![entry(vec!["all".to_string()])],
+    }
+}
+
+fn domains(map: &mut Vec<Domain>, count: usize) -> u16 {
+    for number in map.len()..count {
+        map.push(domain(&format!("D{}_{number}", map[0].name), &[]));
+    }
+    6
+}
+
+/// The total over a map, spread over three domains.
+fn members(map: &mut Vec<Domain>, count: usize, before: &str) -> u16 {
+    let all: Vec<String> = (0..count - map[0].members.len())
+        .map(|number| format!("{before}{number}"))
+        .collect();
+    for (place, part) in all.chunks(count.div_ceil(3)).enumerate() {
+        map.push(Domain {
+            name: format!("P{place}"),
+            members: part.to_vec(),
+        });
+    }
+    6
+}
+
+/// Distinct principals: the number in binary, `all` or a function.
+fn entries(draft: &mut Draft, count: usize) -> u16 {
+    let digit = |number: usize, bit: usize| match number >> bit & 1 {
+        0 => "all".to_string(),
+        _ => "s|a".to_string(),
+    };
+    draft.entries = (0..count)
+        .map(|number| entry((0..8).map(|bit| digit(number, bit)).collect()))
+        .collect();
+    6
+}
+
+fn elements(context: &mut Context, count: usize) -> u16 {
+    let element = |place: usize| ["s|a", "all", "s|b"][place % 3].to_string();
+    *context = keys((0..count).map(element).collect());
+    6
+}
+
+fn object_elements(draft: &mut Draft, count: usize) -> u16 {
+    let mut item = Item {
+        objects: Grant::All,
+        context: Context::All,
+    };
+    elements(&mut item.context, count);
+    draft.entries[0].can_write = Access::Items(vec![item]);
+    6
+}
+
+fn descriptors(draft: &mut Draft, count: usize) -> u16 {
+    let item = Item {
+        objects: Grant::List(vec!["O".to_string()]),
+        context: Context::Omitted,
+    };
+    draft.entries.push(entry(vec!["s|a".to_string()]));
+    draft.entries[0].can_read = Access::Items(vec![item.clone(); 200]);
+    draft.entries[1].can_write = Access::Items(vec![item; count - 201]);
+    // An omitted one counts too.
+    draft.entries[1].can_read = Access::Omitted;
+    6
+}
+
+fn name(draft: &mut Draft, length: usize) -> u16 {
+    draft.objects.push(domain(&"n".repeat(length), &[]));
+    5
+}
+
+fn variable(draft: &mut Draft, length: usize) -> u16 {
+    draft.entries[0].context = Context::Keys {
+        call_context: None,
+        uid: None,
+        gid: Some("g".repeat(length)),
+    };
+    5
+}
+
+fn identifier(draft: &mut Draft, length: usize) -> u16 {
+    let member = format!("s|{}", "x".repeat(length - 2));
+    draft.subjects[0].members.push(member);
+    5
+}
+
+fn line_number(draft: &mut Draft, past: bool) -> u16 {
+    let line = if past { "1000000" } else { "999999" };
+    draft.objects[0].members.push(format!("HEAP|m|{line}|"));
+    5
+}
+
+/// A good text of this length, its end one long comment.
+fn long_text(draft: &Draft, length: usize) -> Vec<u8> {
+    let mut text = write::text(&write::lines(draft));
+    text.push(b'#');
+    text.resize(length - 1, b'c');
+    text.push(b'\n');
+    text
+}
+
+/// A good text whose filled text has this length.
+fn long_filled(length: usize) -> Vec<u8> {
+    let mut draft = base();
+    descriptors(&mut draft, 256);
+    let mut left = length - filled_length(&draft);
+    let mut member = 0;
+    while left > 0 {
+        // Each member adds its bytes, a comma and a space.
+        let size = if left > 240 {
+            120
+        } else {
+            left.min(130).max(left / 2)
+        };
+        let start = format!("m|{member}x");
+        let padding = "x".repeat(size - 2 - start.len());
+        draft.subjects[0].members.push(start + &padding);
+        left -= size;
+        member += 1;
+    }
+    write::text(&write::lines(&draft))
+}
+
+fn filled_length(draft: &Draft) -> usize {
+    let text = write::text(&write::lines(draft));
+    second::filled(&text).map_or(0, |filled| filled.len())
+}

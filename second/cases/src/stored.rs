@@ -1,0 +1,155 @@
+//! Stored cases: inputs and the second program's answers as plain bytes.
+//!
+//! The layout is told in `stored/README.md`: little-endian numbers, lengths
+//! first, so that a program without strings or heap can replay them.
+
+use crate::dice::Dice;
+use crate::events::{self, OwnEvent};
+use crate::{tables, texts};
+use second::{decode, first_fault, judge, overlap, Refusal};
+
+/// The seed of all stored cases.
+const SEED: u64 = 2_026;
+
+/// Each file's name and its bytes.
+pub fn files() -> [(&'static str, Vec<u8>); 3] {
+    [
+        ("judge.cases", judge_cases()),
+        ("overlap.cases", overlap_cases()),
+        ("page.cases", page_cases()),
+    ]
+}
+
+fn put_u16(out: &mut Vec<u8>, number: u16) {
+    out.extend_from_slice(&number.to_le_bytes());
+}
+
+fn put_u32(out: &mut Vec<u8>, number: u32) {
+    out.extend_from_slice(&number.to_le_bytes());
+}
+
+fn put_u64(out: &mut Vec<u8>, number: u64) {
+    out.extend_from_slice(&number.to_le_bytes());
+}
+
+/// A length in sixteen bits, then the words.
+fn put_words(out: &mut Vec<u8>, words: &[u16]) {
+    put_u16(out, words.len() as u16);
+    for &word in words {
+        put_u16(out, word);
+    }
+}
+
+/// The stretches of a table that hold its words that are not 0: first word,
+/// then the words. Gaps of up to two zeros do not end a stretch.
+pub fn runs(table: &[u16]) -> Vec<(u16, Vec<u16>)> {
+    let mut runs: Vec<(u16, Vec<u16>)> = Vec::new();
+    for (place, &word) in table.iter().enumerate() {
+        if word == 0 {
+            continue;
+        }
+        match runs.last_mut() {
+            Some((first, words)) if place <= usize::from(*first) + words.len() + 2 => {
+                words.resize(place - usize::from(*first), 0);
+                words.push(word);
+            }
+            _ => runs.push((place as u16, vec![word])),
+        }
+    }
+    runs
+}
+
+fn put_table(out: &mut Vec<u8>, table: &[u16]) {
+    let runs = runs(table);
+    put_u32(out, table.len() as u32);
+    put_u16(out, runs.len() as u16);
+    for (first, words) in runs {
+        put_u16(out, first);
+        put_words(out, &words);
+    }
+}
+
+fn put_event(out: &mut Vec<u8>, event: &OwnEvent, answer: u32) {
+    put_u16(out, event.operation);
+    put_u16(out, event.target);
+    put_u32(out, event.uid);
+    put_u32(out, event.gid);
+    put_u32(out, event.allocation_uid);
+    put_u32(out, event.allocation_gid);
+    put_words(out, &event.stack);
+    put_words(out, &event.allocation);
+    put_u32(out, answer);
+}
+
+fn judge_cases() -> Vec<u8> {
+    let (count, events) = (80, 40);
+    let mut out = Vec::new();
+    put_u32(&mut out, count);
+    for case in 0..u64::from(count) {
+        let mut dice = Dice::of_case(SEED, case);
+        let table = match case {
+            0 => second::encode(&tables::large(&mut dice)).unwrap_or_default(),
+            _ => tables::table(&mut dice),
+        };
+        let policy = decode(&table);
+        // A table that is refused gives the same answer every time.
+        let events = if policy.is_some() { events } else { 3 };
+        put_table(&mut out, &table);
+        put_u32(&mut out, events);
+        for _ in 0..events {
+            let event = events::event(&mut dice, policy.as_ref());
+            let verdict = judge(&table, event.operation, event.target, &event.lent());
+            put_event(&mut out, &event, verdict.packed());
+        }
+    }
+    out
+}
+
+fn overlap_cases() -> Vec<u8> {
+    let count = 250;
+    let mut out = Vec::new();
+    put_u32(&mut out, count);
+    for case in 0..u64::from(count) {
+        let mut dice = Dice::of_case(SEED + 1, case);
+        let table = tables::table(&mut dice);
+        let room = *dice.pick(&[0, 31, 32, 32, 32, 32, 32, 33]);
+        let mut witness = vec![0; room];
+        let answer = overlap(&table, &mut witness);
+        let written = match answer {
+            second::Overlap::Refused(_) => 0,
+            _ => second::WITNESS_WORDS,
+        };
+        put_table(&mut out, &table);
+        put_u16(&mut out, room as u16);
+        put_u64(&mut out, answer.packed());
+        put_words(&mut out, &witness[..written]);
+    }
+    out
+}
+
+fn page_cases() -> Vec<u8> {
+    let count = 260;
+    let mut out = Vec::new();
+    put_u32(&mut out, count);
+    for case in 0..u64::from(count) {
+        let mut dice = Dice::of_case(SEED + 2, case);
+        let text = match case {
+            0 => Vec::new(),
+            1 => b"\n".to_vec(),
+            _ => short_text(&mut dice),
+        };
+        put_u32(&mut out, text.len() as u32);
+        out.extend_from_slice(&text);
+        put_u64(&mut out, Refusal::packed(first_fault(&text)));
+    }
+    out
+}
+
+/// A text that is short enough to be stored beside many.
+fn short_text(dice: &mut Dice) -> Vec<u8> {
+    let mut text = texts::small_text(dice);
+    while text.len() > 500 {
+        text = texts::small_text(dice);
+    }
+    text
+}

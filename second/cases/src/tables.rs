@@ -1,0 +1,325 @@
+//! Tables: of files, of policies that no file gives, and damaged ones.
+
+use crate::dice::Dice;
+use crate::{limits, texts};
+use second::policy::{first_repeat, Context, Descriptor, Element, Entry, Gid, Grant, Policy, Uid};
+use second::table::{
+    DESCRIPTORS_AT, DESCRIPTOR_WORDS, ENTRIES_AT, ENTRY_WORDS, FUNCTIONS_AT, OBJECTS_AT, UNUSED_AT,
+};
+use second::{encode, policy_of, TABLE_WORDS};
+use std::collections::BTreeSet;
+
+/// Any table, well formed in most cases, with words past its end at times.
+pub fn table(dice: &mut Dice) -> Vec<u16> {
+    let mut words = words(&policy(dice));
+    if dice.percent(20) {
+        damage(dice, &mut words);
+    }
+    add_past(dice, &mut words);
+    words
+}
+
+/// At times adds words past the table, which are never looked at.
+fn add_past(dice: &mut Dice, words: &mut Vec<u16>) {
+    if dice.percent(10) {
+        let more = dice.from_to(1, 9);
+        words.extend((0..more).map(|_| dice.next() as u16));
+    }
+}
+
+/// A well-formed table, with words past its end at times.
+pub fn sound_table(dice: &mut Dice) -> Vec<u16> {
+    let mut words = loop {
+        if let Some(words) = encode(&policy(dice)) {
+            break words;
+        }
+    };
+    add_past(dice, &mut words);
+    words
+}
+
+/// A table that is damaged in most cases.
+pub fn doubtful_table(dice: &mut Dice) -> Vec<u16> {
+    let mut words = words(&policy(dice));
+    if dice.percent(85) {
+        damage(dice, &mut words);
+    }
+    if dice.percent(5) {
+        damage(dice, &mut words);
+    }
+    words
+}
+
+fn words(policy: &Policy) -> Vec<u16> {
+    encode(policy).unwrap_or_default()
+}
+
+/// A sound policy: of a file, of no file, or at a limit.
+pub fn policy(dice: &mut Dice) -> Policy {
+    match dice.below(100) {
+        0..=39 => match policy_of(&texts::good(dice)) {
+            Ok(policy) => policy,
+            Err(_) => direct(dice),
+        },
+        40..=41 => {
+            // The limits whose files the reader takes.
+            match policy_of(&limits::text(dice.below(12), false).0) {
+                Ok(policy) => policy,
+                Err(_) => direct(dice),
+            }
+        }
+        42 => large(dice),
+        43..=49 => long_clash(dice),
+        _ => direct(dice),
+    }
+}
+
+/// A small policy that need not come from a file: domains of functions and
+/// objects in any order, subjects without functions.
+pub fn direct(dice: &mut Dice) -> Policy {
+    let object_domains = *dice.pick(&[0, 1, 2, 2, 3, 4]);
+    let subject_domains = *dice.pick(&[0, 1, 2, 2, 3, 3, 4]);
+    let members = |dice: &mut Dice, domains: u16, most: usize| -> Vec<u16> {
+        let least = usize::from(dice.percent(90));
+        let count = if domains == 0 {
+            0
+        } else {
+            dice.from_to(least, most)
+        };
+        (0..count)
+            .map(|_| dice.below(domains.into()) as u16)
+            .collect()
+    };
+    let mut policy = Policy {
+        object_domains,
+        subject_domains,
+        objects: members(dice, object_domains, 8),
+        functions: members(dice, subject_domains, 8),
+        entries: Vec::new(),
+    };
+    let most = *dice.pick(&[2, 4, 9]);
+    add_entries(dice, &mut policy, most, 4);
+    policy
+}
+
+/// Two entries of one subject that only long stacks meet: one pattern begins
+/// with functions, the other ends with them.
+fn long_clash(dice: &mut Dice) -> Policy {
+    let functions = dice.from_to(2, 40);
+    let some = |dice: &mut Dice, count: usize| -> Vec<Element> {
+        let one = |_| Element::Function(dice.below(functions) as u16);
+        (0..count).map(one).collect()
+    };
+    let lengths = (dice.from_to(1, 15), dice.from_to(1, 15));
+    let (begin, end) = (some(dice, lengths.0), some(dice, lengths.1));
+    let patterns = [
+        [&begin[..], &[Element::All]].concat(),
+        [&[Element::All], &end[..]].concat(),
+    ];
+    let entry = |pattern: Vec<Element>, uid: Uid| Entry {
+        subject: 0,
+        context: Context {
+            pattern,
+            uid,
+            gid: Gid::All,
+        },
+        can_call: Grant::All,
+        can_return: Grant::All,
+        can_read: Vec::new(),
+        can_write: Vec::new(),
+    };
+    let uid = *dice.pick(&[Uid::All, Uid::Root, Uid::User]);
+    Policy {
+        object_domains: 0,
+        subject_domains: 2,
+        objects: Vec::new(),
+        functions: (0..functions)
+            .map(|_| u16::from(dice.percent(20)))
+            .collect(),
+        entries: patterns.map(|pattern| entry(pattern, uid)).into(),
+    }
+}
+
+/// A policy with many entries, long patterns and many domains.
+pub fn large(dice: &mut Dice) -> Policy {
+    let (object_domains, subject_domains) = (128, dice.from_to(100, 128) as u16);
+    let any = |dice: &mut Dice, domains: u16| -> Vec<u16> {
+        let count = *dice.pick(&[1_024, 1_023, 700]);
+        (0..count)
+            .map(|_| dice.below(domains.into()) as u16)
+            .collect()
+    };
+    let mut policy = Policy {
+        object_domains,
+        subject_domains,
+        objects: any(dice, object_domains),
+        functions: any(dice, subject_domains),
+        entries: Vec::new(),
+    };
+    add_entries(dice, &mut policy, 129, 16);
+    policy
+}
+
+fn add_entries(dice: &mut Dice, policy: &mut Policy, below: usize, elements: usize) {
+    if policy.subject_domains == 0 {
+        return;
+    }
+    let mut left = 256;
+    for _ in 0..dice.below(below) {
+        let entry = entry(dice, policy, elements, left.min(4));
+        left -= entry.can_read.len() + entry.can_write.len();
+        policy.entries.push(entry);
+        if first_repeat(&policy.entries).is_some() {
+            policy.entries.pop();
+        }
+    }
+}
+
+fn entry(dice: &mut Dice, policy: &Policy, elements: usize, descriptors: usize) -> Entry {
+    let context = context(dice, policy, elements, None);
+    let reads = dice.below(descriptors + 1);
+    let writes = dice.below(descriptors - reads + 1);
+    let mut some = |count: usize| -> Vec<Descriptor> {
+        let one = |_| Descriptor {
+            objects: grant(dice, policy.object_domains),
+            context: self::context(dice, policy, elements, Some(&context)),
+        };
+        (0..count).map(one).collect()
+    };
+    let (can_read, can_write) = (some(reads), some(writes));
+    Entry {
+        subject: dice.below(usize::from(policy.subject_domains).min(3)) as u16,
+        can_call: grant(dice, policy.subject_domains),
+        can_return: grant(dice, policy.subject_domains),
+        can_read,
+        can_write,
+        context,
+    }
+}
+
+fn grant(dice: &mut Dice, domains: u16) -> Grant {
+    if dice.percent(15) {
+        return Grant::All;
+    }
+    let chance = *dice.pick(&[0, 30, 60, 100]);
+    let all: BTreeSet<u16> = (0..domains).filter(|_| dice.percent(chance)).collect();
+    Grant::Domains(all)
+}
+
+fn context(dice: &mut Dice, policy: &Policy, elements: usize, outer: Option<&Context>) -> Context {
+    let functions = policy.functions.len();
+    let wild = *dice.pick(&[20, 50, 80, 100]);
+    let element = |dice: &mut Dice| match dice.percent(wild) || functions == 0 {
+        true => Element::All,
+        // Few functions, so that patterns meet.
+        false => Element::Function(dice.below(functions.min(5)) as u16),
+    };
+    let length = if dice.percent(4) {
+        16
+    } else {
+        dice.from_to(1, elements)
+    };
+    let pattern = (0..length).map(|_| element(dice)).collect();
+    let mut uid = *dice.pick(&[Uid::All, Uid::Variable, Uid::Root, Uid::User]);
+    let mut gid = *dice.pick(&[Gid::All, Gid::All, Gid::Variable]);
+    if let Some(outer) = outer {
+        if uid == Uid::Variable && outer.uid != Uid::Variable {
+            uid = Uid::All;
+        }
+        if gid == Gid::Variable && outer.gid != Gid::Variable {
+            gid = Gid::All;
+        }
+        if dice.percent(25) {
+            return Context::all();
+        }
+    }
+    Context { pattern, uid, gid }
+}
+
+/// Changes one word or bit, anywhere or where it matters, or the length.
+pub fn damage(dice: &mut Dice, words: &mut Vec<u16>) {
+    if words.len() < TABLE_WORDS || dice.below(40) == 0 {
+        let length = *dice.pick(&[0, 1, 32, 16_382, 16_383]);
+        words.truncate(length);
+        return;
+    }
+    if dice.percent(35) {
+        edge(dice, words);
+        return;
+    }
+    let place = place(dice, words);
+    let word = words[place];
+    words[place] = match dice.below(6) {
+        0 | 1 => word ^ 1 << dice.below(16),
+        2 => word.wrapping_add(1),
+        3 => word.wrapping_sub(1),
+        4 => dice.below(20) as u16,
+        _ => *dice.pick(&[
+            0, 1, 2, 16, 17, 128, 129, 255, 256, 257, 1_024, 1_025, 65_535,
+        ]),
+    };
+}
+
+/// Puts a number at its count or limit, a bit just past its set, or one
+/// principal in two entries. The table need not be well formed before.
+fn edge(dice: &mut Dice, words: &mut [u16]) {
+    let [_, object_domains, subject_domains, objects, functions, entries] = words[..6] else {
+        return;
+    };
+    let entries = usize::from(entries).min(128);
+    let entry = ENTRIES_AT + ENTRY_WORDS * dice.below(entries);
+    let other = ENTRIES_AT + ENTRY_WORDS * dice.below(entries);
+    let descriptor = DESCRIPTORS_AT + DESCRIPTOR_WORDS * dice.below(5);
+    let context = *dice.pick(&[entry, descriptor]);
+    let (place, word) = match dice.below(14) {
+        0 => (
+            OBJECTS_AT + dice.below(objects.into()).min(1_023),
+            object_domains,
+        ),
+        1 => (
+            FUNCTIONS_AT + dice.below(functions.into()).min(1_023),
+            subject_domains,
+        ),
+        2 => (entry + 20, subject_domains),
+        3 | 4 => (
+            context + 4 + dice.below(4),
+            functions.wrapping_add(*dice.pick(&[0, 1, 2])),
+        ),
+        5 => (context, *dice.pick(&[0, 1, 16, 17])),
+        6 | 7 => (context + dice.from_to(1, 2), dice.below(5) as u16),
+        8 => (
+            entry + dice.from_to(21, 22),
+            *dice.pick(&[0, 1, 255, 256, 257]),
+        ),
+        9 => return bit(dice, &mut words[entry + 24..], subject_domains),
+        10 => return bit(dice, &mut words[entry + 33..], subject_domains),
+        11 => return bit(dice, &mut words[descriptor + 20..], object_domains),
+        // Context and subject: the whole principal.
+        _ => return words.copy_within(entry..entry + 21, other),
+    };
+    words[place] = word;
+}
+
+/// Sets a bit of a grant: the last one of its set, or the first past it.
+fn bit(dice: &mut Dice, grant: &mut [u16], count: u16) {
+    let domain = usize::from(count.min(127)).saturating_sub(dice.below(2));
+    grant[1 + domain / 16] |= 1 << (domain % 16);
+}
+
+/// A word of any region, mostly near what is used.
+fn place(dice: &mut Dice, words: &[u16]) -> usize {
+    let near = |dice: &mut Dice, count: u16| dice.below(usize::from(count).min(1_000) + 2);
+    match dice.below(12) {
+        0 | 1 => dice.below(8),
+        2 => dice.below(OBJECTS_AT),
+        3 => OBJECTS_AT + near(dice, words[3]),
+        4 => FUNCTIONS_AT + near(dice, words[4]),
+        5..=7 => ENTRIES_AT + ENTRY_WORDS * near(dice, words[5].min(120)) + dice.below(ENTRY_WORDS),
+        8 | 9 => {
+            let block = dice.below(12) * dice.below(2) + dice.below(4);
+            DESCRIPTORS_AT + DESCRIPTOR_WORDS * block + dice.below(DESCRIPTOR_WORDS)
+        }
+        10 => UNUSED_AT + dice.below(TABLE_WORDS - UNUSED_AT),
+        _ => dice.below(TABLE_WORDS),
+    }
+}

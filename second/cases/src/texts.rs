@@ -1,0 +1,104 @@
+//! Texts: good files, damaged ones, files at the limits, and noise.
+
+use crate::dice::Dice;
+use crate::{damage, draft, limits, write};
+
+/// Any text.
+pub fn text(dice: &mut Dice) -> Vec<u8> {
+    match dice.below(1_000) {
+        0..=7 => limits::text(dice.below(limits::LIMITS), dice.percent(50)).0,
+        8..=19 => damaged_limit(dice),
+        20..=29 => noise(dice),
+        30..=379 => good(dice),
+        _ => damaged(dice),
+    }
+}
+
+/// A text for cases that must stay small: as `text`, but no limits.
+pub fn small_text(dice: &mut Dice) -> Vec<u8> {
+    match dice.below(100) {
+        0 => noise(dice),
+        1..=29 => good(dice),
+        _ => damaged(dice),
+    }
+}
+
+/// A text that the reader takes.
+pub fn good(dice: &mut Dice) -> Vec<u8> {
+    let draft = draft::draft(dice);
+    let lines = write::with_skipped(dice, write::lines(&draft));
+    write::text(&lines)
+}
+
+/// A text with one fault or several at once.
+pub fn damaged(dice: &mut Dice) -> Vec<u8> {
+    let faults = *dice.pick(&[1, 1, 1, 2, 3, 5]);
+    let mut sorts = [0; 3];
+    for _ in 0..faults {
+        sorts[*dice.pick(&[0, 0, 0, 1, 1, 1, 2])] += 1;
+    }
+    let mut draft = draft::draft(dice);
+    for _ in 0..sorts[0] {
+        damage::draft(dice, &mut draft);
+    }
+    let mut lines = write::with_skipped(dice, write::lines(&draft));
+    for _ in 0..sorts[1] {
+        damage::lines(dice, &mut lines);
+    }
+    let mut text = write::text(&lines);
+    for _ in 0..sorts[2] {
+        damage::bytes(dice, &mut text);
+    }
+    text
+}
+
+/// A text at or past a limit, with faults of other sorts beside it.
+fn damaged_limit(dice: &mut Dice) -> Vec<u8> {
+    let limit = dice.below(limits::LIMITS);
+    let past = dice.percent(50);
+    if limit >= limits::DRAFT_LIMITS {
+        let (mut text, _) = limits::text(limit, past);
+        damage::bytes(dice, &mut text);
+        return text;
+    }
+    let (mut draft, _) = limits::draft(limit, past);
+    for _ in 0..dice.below(4) {
+        damage::draft(dice, &mut draft);
+    }
+    let mut lines = write::with_skipped(dice, write::lines(&draft));
+    for _ in 0..*dice.pick(&[0, 0, 1, 2]) {
+        damage::lines(dice, &mut lines);
+    }
+    write::text(&lines)
+}
+
+/// Short texts of few bytes, that no file would have.
+fn noise(dice: &mut Dice) -> Vec<u8> {
+    const PIECES: [&str; 20] = [
+        "\n",
+        "\n",
+        "\n",
+        " ",
+        "  ",
+        "- ",
+        "object_map:",
+        "object_map: []\n",
+        "subject_map: []\n",
+        "privileges:",
+        "- name: A\n",
+        "  objects: []\n",
+        "- principal:\n",
+        "    subject: A\n",
+        "#",
+        ":",
+        "[]",
+        "    execution_context:\n",
+        "      uid: U\n",
+        "\r\n",
+    ];
+    let mut text = String::new();
+    for _ in 0..dice.below(9) {
+        text += dice.word(&PIECES);
+    }
+    text.into_bytes()
+}

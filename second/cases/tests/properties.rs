@@ -1,0 +1,473 @@
+//! Properties of the second program over generated cases.
+//!
+//! The count is small by default; `CASES=100000` runs more, and `SEED` another
+//! run of cases.
+
+use cases::{events, limits, tables, texts, Dice};
+use second::policy::{Context, Element, Entry, Gid, Grant, Policy, Uid};
+use second::*;
+use std::collections::BTreeMap;
+
+fn number(name: &str, default: u64) -> u64 {
+    let set = std::env::var(name).ok();
+    set.and_then(|value| value.parse().ok()).unwrap_or(default)
+}
+
+fn each_case(share: u64, mut run: impl FnMut(&mut Dice)) {
+    let (seed, count) = (number("SEED", 1), number("CASES", 10_000));
+    for case in 0..count / share {
+        run(&mut Dice::of_case(seed, case));
+    }
+}
+
+type Mix = BTreeMap<String, u64>;
+
+fn note(mix: &mut Mix, outcome: impl ToString) {
+    *mix.entry(outcome.to_string()).or_default() += 1;
+}
+
+/// Prints the mix and asks that each outcome occurred.
+fn show(name: &str, mix: &Mix, needed: &[&str]) {
+    println!("{name}: {mix:?}");
+    for outcome in needed {
+        assert!(mix.contains_key(*outcome), "{name}: no case of {outcome}");
+    }
+}
+
+#[test]
+fn texts_are_answered_and_filling_keeps_the_meaning() {
+    let (mut mix, mut fills) = (Mix::new(), Mix::new());
+    each_case(1, |dice| {
+        let text = texts::text(dice);
+        let mut table = vec![0xAAAA; TABLE_WORDS + 2];
+        let answer = read(&text, &mut table);
+        assert_eq!(table[TABLE_WORDS..], [0xAAAA, 0xAAAA]);
+        note(&mut mix, answer.err().map_or(0, |r| r.number));
+        match answer {
+            Err(refusal) => {
+                assert!(table[..TABLE_WORDS].iter().all(|&word| word == 0));
+                assert_eq!(policy_of(&text), Err(refusal));
+                assert_eq!(refusal.line == 0, refusal.number == 2);
+                assert_eq!(lookup(&text, Map::Objects, 0), (0, 0));
+            }
+            Ok(()) => accepted(&text, &table),
+        }
+        let page = first_fault(&text);
+        assert!(page.is_none() || page == answer.err());
+        check_fill(dice, &text, answer, &mut fills);
+    });
+    show(
+        "read",
+        &mix,
+        &["0", "2", "3", "4", "5", "6", "7", "8", "9", "10", "11"],
+    );
+    show(
+        "fill",
+        &fills,
+        &[
+            "0", "2", "3", "4", "5", "6", "7", "8", "9", "10", "11", "30", "31",
+        ],
+    );
+}
+
+/// An accepted text: its table is well formed, and filling keeps all.
+fn accepted(text: &[u8], table: &[u16]) {
+    let policy = policy_of(text).unwrap();
+    assert!(well_formed(table));
+    assert_eq!(decode(table).as_ref(), Some(&policy));
+    assert_eq!(encode(&policy).unwrap(), table[..TABLE_WORDS]);
+    let filled = filled(text).unwrap();
+    for (map, count) in [
+        (Map::Objects, policy.object_domains),
+        (Map::Subjects, policy.subject_domains),
+    ] {
+        for domain in 0..usize::from(count) + 2 {
+            let name = |text: &[u8]| {
+                let (start, length) = lookup(text, map, domain);
+                text[start..start + length].to_vec()
+            };
+            assert_eq!(name(text).is_empty(), domain >= count.into());
+            if filled.len() <= 65_536 {
+                assert_eq!(name(text), name(&filled));
+            }
+        }
+    }
+    if filled.len() <= 65_536 {
+        assert_eq!(second::filled(&filled).as_ref(), Ok(&filled));
+        assert_eq!(policy_of(&filled), Ok(policy));
+        let mut again = vec![1; TABLE_WORDS];
+        assert_eq!(read(&filled, &mut again), Ok(()));
+        assert_eq!(again, table[..TABLE_WORDS]);
+    }
+}
+
+fn check_fill(dice: &mut Dice, text: &[u8], answer: Result<(), Refusal>, fills: &mut Mix) {
+    let room = match filled(text) {
+        Ok(filled) if dice.percent(80) => filled.len() + dice.below(4),
+        Ok(filled) => filled.len().saturating_sub(1 + dice.below(3)),
+        Err(_) => dice.below(100),
+    };
+    let mut output = vec![0xEE; room];
+    let fill = fill(text, &mut output);
+    note(fills, fill.err().map_or(0, |r| r.number));
+    match fill {
+        Ok(length) => {
+            assert_eq!(output[..length], filled(text).unwrap()[..]);
+            assert!(output[length..].iter().all(|&byte| byte == 0xEE));
+        }
+        Err(refusal) => {
+            assert!(output.iter().all(|&byte| byte == 0xEE));
+            match answer {
+                Ok(()) => assert!(matches!(refusal.number, 30 | 31) && refusal.line == 0),
+                Err(first) => assert_eq!(refusal, first),
+            }
+        }
+    }
+}
+
+#[test]
+fn any_bytes_and_words_are_answered() {
+    each_case(1, |dice| {
+        let few = dice.percent(50);
+        let byte = |dice: &mut Dice| match few {
+            true => *dice.pick(b"\n\n  -:#a[],|"),
+            false => dice.next() as u8,
+        };
+        let bytes: Vec<u8> = (0..dice.below(80)).map(|_| byte(dice)).collect();
+        let damaged = texts::damaged(dice);
+        for text in [&bytes, &damaged] {
+            // The page alone, whatever the bytes are.
+            assert!(matches!(page(text).map_or(0, |r| r.number), 0 | 4 | 5 | 9));
+            let _ = program::answer(text);
+        }
+        let words: Vec<u16> = (0..dice.below(50)).map(|_| dice.next() as u16).collect();
+        assert!(!well_formed(&words));
+        let event = events::event(dice, None);
+        let verdict = judge(&words, event.operation, event.target, &event.lent());
+        assert_eq!(verdict, Verdict::Refused(20));
+    });
+}
+
+#[test]
+fn limits_are_met_and_passed() {
+    for limit in 0..limits::LIMITS {
+        for past in [false, true] {
+            let (text, number) = limits::text(limit, past);
+            let answer = fill(&text, &mut vec![0; 65_536]);
+            assert_eq!(
+                answer.err().map_or(0, |r| r.number),
+                number,
+                "{limit} {past}"
+            );
+        }
+    }
+    assert_eq!(limits::text(12, false).0.len(), 65_536);
+    assert_eq!(filled(&limits::text(13, false).0).unwrap().len(), 65_536);
+    assert_eq!(filled(&limits::text(13, true).0).unwrap().len(), 65_537);
+}
+
+#[test]
+fn most_generated_good_texts_are_good() {
+    let (mut good, mut all) = (0, 0);
+    each_case(10, |dice| {
+        all += 1;
+        good += u64::from(policy_of(&texts::good(dice)).is_ok());
+    });
+    assert_eq!(good, all);
+}
+
+/// The words a table uses, asked word by word: another way to say "zeros in
+/// unused words".
+fn is_used(policy: &Policy, place: usize) -> bool {
+    let context = |place: usize, pattern: usize| place < 3 || (4..4 + pattern).contains(&place);
+    let grant = |place: usize, start: usize| (start..start + 9).contains(&place);
+    let descriptors: Vec<_> = policy
+        .entries
+        .iter()
+        .flat_map(|e| e.descriptors())
+        .collect();
+    match place {
+        0..32 => place < 6,
+        32..1_056 => place - 32 < policy.objects.len(),
+        1_056..2_080 => place - 1_056 < policy.functions.len(),
+        2_080..7_712 => {
+            let (block, at) = ((place - 2_080) / 44, (place - 2_080) % 44);
+            policy.entries.get(block).is_some_and(|entry| {
+                let head = context(at, entry.context.pattern.len()) || (20..23).contains(&at);
+                head || grant(at, 24) || grant(at, 33)
+            })
+        }
+        7_712..15_904 => {
+            let (block, at) = ((place - 7_712) / 32, (place - 7_712) % 32);
+            descriptors
+                .get(block)
+                .is_some_and(|d| context(at, d.context.pattern.len()) || grant(at, 20))
+        }
+        _ => false,
+    }
+}
+
+#[test]
+fn tables_round_trip_and_unused_words_count() {
+    let mut mix = Mix::new();
+    each_case(1, |dice| {
+        let policy = tables::policy(dice);
+        let mut words = encode(&policy).expect("sound");
+        assert_eq!(decode(&words).as_ref(), Some(&policy));
+        let place = dice.below(TABLE_WORDS);
+        words[place] ^= 1 << dice.below(16);
+        if !is_used(&policy, place) {
+            assert!(!well_formed(&words), "unused word {place}");
+        }
+        let mut words = tables::doubtful_table(dice);
+        note(&mut mix, well_formed(&words));
+        if let Some(policy) = decode(&words) {
+            assert_eq!(encode(&policy).unwrap(), words[..TABLE_WORDS]);
+            words.push(dice.next() as u16);
+            assert!(well_formed(&words));
+            assert!(!well_formed(&words[..TABLE_WORDS - 1]));
+        }
+    });
+    show("well_formed", &mix, &["false", "true"]);
+}
+
+/// The match of document 01, word for word, for short patterns and stacks.
+fn matches_as_said(pattern: &[Element], stack: &[u16]) -> bool {
+    match pattern {
+        [] => stack.is_empty(),
+        [Element::Function(function), rest @ ..] => {
+            stack.first() == Some(function) && matches_as_said(rest, &stack[1..])
+        }
+        [Element::All, rest @ ..] => {
+            matches_as_said(rest, stack)
+                || !stack.is_empty() && matches_as_said(pattern, &stack[1..])
+        }
+    }
+}
+
+#[test]
+fn matching_is_as_said() {
+    let mut mix = Mix::new();
+    each_case(1, |dice| {
+        for _ in 0..5 {
+            let element = |dice: &mut Dice| match dice.below(4) {
+                0 | 1 => Element::All,
+                function => Element::Function(function as u16),
+            };
+            let pattern: Vec<Element> = (0..dice.below(6)).map(|_| element(dice)).collect();
+            let stack: Vec<u16> = (0..dice.below(7))
+                .map(|_| dice.from_to(2, 4) as u16)
+                .collect();
+            let answer = matches(&pattern, &stack);
+            assert_eq!(answer, matches_as_said(&pattern, &stack));
+            note(&mut mix, answer);
+        }
+    });
+    show("matches", &mix, &["false", "true"]);
+}
+
+#[test]
+fn events_are_judged() {
+    let mut mix = Mix::new();
+    each_case(1, |dice| {
+        let table = tables::table(dice);
+        let policy = decode(&table);
+        for _ in 0..8 {
+            let event = events::event(dice, policy.as_ref());
+            let verdict = judge(&table, event.operation, event.target, &event.lent());
+            note(
+                &mut mix,
+                outcome(verdict, event.operation, event.allocation.is_empty()),
+            );
+        }
+    });
+    let needed = [
+        "allowed 1 static",
+        "allowed 1 allocated",
+        "allowed 2 static",
+        "allowed 2 allocated",
+        "allowed 3",
+        "allowed 4",
+        "inside",
+        "violation 1",
+        "violation 2",
+        "violation 3",
+        "violation 4",
+        "refused 20",
+        "refused 21",
+        "refused 22",
+        "refused 23",
+    ];
+    show("judge", &mix, &needed);
+}
+
+fn outcome(verdict: Verdict, operation: u16, is_static: bool) -> String {
+    match verdict {
+        Verdict::Inside => "inside".to_string(),
+        Verdict::Allowed(_) if operation > 2 => format!("allowed {operation}"),
+        Verdict::Allowed(_) if is_static => format!("allowed {operation} static"),
+        Verdict::Allowed(_) => format!("allowed {operation} allocated"),
+        Verdict::Violation(number) => format!("violation {number}"),
+        Verdict::Refused(number) => format!("refused {number}"),
+    }
+}
+
+/// Every stack up to a length over few functions, shortest and lowest first.
+fn stacks(functions: u16, length: usize) -> Vec<Vec<u16>> {
+    let mut all = vec![vec![]];
+    let mut layer: Vec<Vec<u16>> = vec![vec![]];
+    for _ in 0..length {
+        layer = layer
+            .iter()
+            .flat_map(|stack| (0..functions).map(|f| [&stack[..], &[f]].concat()))
+            .collect();
+        all.extend(layer.clone());
+    }
+    all
+}
+
+#[test]
+fn clashes_are_real_and_clear_is_clear() {
+    let mut mix = Mix::new();
+    each_case(1, |dice| {
+        let table = tables::table(dice);
+        let mut witness = vec![0x5555; *dice.pick(&[0, 31, 32, 32, 32, 32, 32, 33, 33, 40])];
+        let before = witness.clone();
+        let answer = overlap(&table, &mut witness);
+        let policy = decode(&table);
+        if let Overlap::Refused(number) = answer {
+            note(&mut mix, number);
+            assert_eq!(witness, before);
+            assert_eq!(number == 20, policy.is_none());
+            return;
+        }
+        let policy = policy.unwrap();
+        assert_eq!(witness[32..], before[32..]);
+        note(&mut mix, check_witness(&policy, answer, &witness));
+        if policy.functions.len() <= 4 && dice.percent(20) {
+            assert_eq!(answer, brute(&policy, &witness), "{policy:?}");
+        }
+    });
+    let needed = [
+        "20",
+        "40",
+        "clear",
+        "clash of  1",
+        "clash of  2",
+        "clash of  4",
+    ];
+    show("overlap", &mix, &needed);
+}
+
+/// A witness is matched by both entries and at most 32 deep, then zeros.
+fn check_witness(policy: &Policy, answer: Overlap, witness: &[u16]) -> String {
+    let Overlap::Clash {
+        lower,
+        higher,
+        length,
+        uid,
+    } = answer
+    else {
+        assert!(witness[..32].iter().all(|&word| word == 0));
+        return "clear".to_string();
+    };
+    let stack = &witness[..usize::from(length)];
+    assert!((1..=32).contains(&length));
+    assert!(witness[stack.len()..32].iter().all(|&word| word == 0));
+    for entry in [lower, higher] {
+        assert!(entry_matches(policy, entry, stack, uid), "{policy:?}");
+    }
+    format!("clash of {length:>2}")
+}
+
+fn entry_matches(policy: &Policy, entry: u16, stack: &[u16], uid: u16) -> bool {
+    let entry = &policy.entries[usize::from(entry)];
+    let top = policy.functions.get(usize::from(*stack.last().unwrap()));
+    let uid_fits = match entry.context.uid {
+        Uid::Root => uid == 0,
+        Uid::User => uid == 1,
+        _ => true,
+    };
+    top == Some(&entry.subject) && uid_fits && matches(&entry.context.pattern, stack)
+}
+
+/// The report by trying every stack of at most six frames; a longer answer is
+/// taken as it is.
+fn brute(policy: &Policy, witness: &[u16]) -> Overlap {
+    let entries = policy.entries.len() as u16;
+    let stacks = stacks(policy.functions.len() as u16, 6);
+    let answer = overlap(&encode(policy).unwrap(), &mut [0; 32]);
+    for lower in 0..entries {
+        for higher in lower + 1..entries {
+            if let Some((stack, uid)) = brute_pair(policy, lower, higher, &stacks) {
+                assert_eq!(witness[..stack.len()], stack[..], "not the lowest");
+                let length = stack.len() as u16;
+                return Overlap::Clash {
+                    lower,
+                    higher,
+                    length,
+                    uid,
+                };
+            }
+            let packed = answer.packed();
+            if packed >> 32 & 0xFF > 6 && packed >> 16 & 0xFFFF == u64::from(higher << 8 | lower) {
+                return answer;
+            }
+        }
+    }
+    Overlap::Clear
+}
+
+/// The first stack that two entries both match under some uid.
+fn brute_pair<'s>(
+    policy: &Policy,
+    lower: u16,
+    higher: u16,
+    stacks: &'s [Vec<u16>],
+) -> Option<(&'s Vec<u16>, u16)> {
+    let both = [lower, higher];
+    let is_real = |stack: &&Vec<u16>| {
+        let under = |uid| both.iter().all(|&e| entry_matches(policy, e, stack, uid));
+        under(0) || under(1)
+    };
+    let stack = stacks[1..].iter().find(is_real)?;
+    let is_user = |&e: &u16| policy.entries[usize::from(e)].context.uid == Uid::User;
+    Some((stack, both.iter().any(is_user).into()))
+}
+
+#[test]
+fn no_table_makes_the_report_slow() {
+    // Every pair must be searched to its end: the tops are all different.
+    let entry = |number: u16| {
+        let element = |place: u16| match place % 2 {
+            0 => Element::All,
+            _ => Element::Function((number >> (place % 7)) % 3),
+        };
+        let mut pattern: Vec<Element> = (0..15).map(element).collect();
+        pattern.push(Element::Function(10 + number));
+        Entry {
+            subject: 0,
+            context: Context {
+                pattern,
+                uid: Uid::All,
+                gid: Gid::All,
+            },
+            can_call: Grant::All,
+            can_return: Grant::All,
+            can_read: vec![],
+            can_write: vec![],
+        }
+    };
+    let policy = Policy {
+        object_domains: 0,
+        subject_domains: 1,
+        objects: vec![],
+        functions: vec![0; 1_024],
+        entries: (0..128).map(entry).collect(),
+    };
+    let start = std::time::Instant::now();
+    let answer = overlap(&encode(&policy).unwrap(), &mut [0; 32]);
+    println!("slow report: {:?}", start.elapsed());
+    assert_eq!(answer, Overlap::Clear);
+    assert!(start.elapsed().as_secs() < 10);
+}

@@ -1,0 +1,228 @@
+//! `bench`: how long the plain judge and the proved one take for an event.
+//!
+//! Both judge the same events under the same table, which has 128 entries and
+//! 256 descriptors. The proved one is timed inside the bridge, so that no pipe
+//! is measured.
+#![forbid(unsafe_code)]
+
+use cases::events::OwnEvent;
+use cases::{full, Dice};
+use compare::wire::{Call, Function, Replies, Requests};
+use compare::{judge, Bridge};
+use second::judge::judge_policy;
+use second::{decode, encode, Verdict};
+use std::hint::black_box;
+use std::process::ExitCode;
+use std::time::Instant;
+
+const USAGE: &str = "usage: bench [--events N] [--seed N] [--bridge COMMAND]";
+
+/// Each figure is the middle one of so many runs.
+const RUNS: usize = 5;
+
+/// One event in so many is judged with a test of the table, which takes long.
+const TESTED_SHARE: usize = 20;
+
+struct Asked {
+    events: usize,
+    seed: u64,
+    bridge: Option<String>,
+}
+
+impl Asked {
+    fn of(arguments: &[String]) -> Option<Asked> {
+        let mut asked = Asked {
+            events: 100_000,
+            seed: 1,
+            bridge: None,
+        };
+        for pair in arguments.chunks(2) {
+            let [name, value] = pair else { return None };
+            match name.as_str() {
+                "--events" => asked.events = value.parse().ok()?,
+                "--seed" => asked.seed = value.parse().ok()?,
+                "--bridge" => asked.bridge = Some(value.clone()),
+                _ => return None,
+            }
+        }
+        Some(asked)
+    }
+}
+
+fn main() -> ExitCode {
+    let arguments: Vec<String> = std::env::args().skip(1).collect();
+    let Some(asked) = Asked::of(&arguments) else {
+        eprintln!("{USAGE}");
+        return ExitCode::from(2);
+    };
+    match bench(&asked) {
+        Ok(()) => ExitCode::SUCCESS,
+        Err(fault) => {
+            eprintln!("{fault}");
+            ExitCode::FAILURE
+        }
+    }
+}
+
+fn bench(asked: &Asked) -> Result<(), String> {
+    let mut bridge = Bridge::start(compare::bridge::command(asked.bridge.as_deref()))?;
+    let proved = match bridge.emulated {
+        true => "UNDER AN EMULATOR: its figures say nothing about speed",
+        false => "natively",
+    };
+    let plain = match cfg!(debug_assertions) {
+        true => "natively, SLOWED BY CHECKS: build it with --profile speed",
+        false => "natively",
+    };
+    println!("machine: {}", std::env::consts::ARCH);
+    println!("the plain program runs {plain}");
+    println!("the proved program runs {proved}");
+    println!("nanoseconds for one call, the middle of {RUNS} runs");
+
+    let mut dice = Dice::new(asked.seed);
+    let words = encode(&full::policy(&mut dice)).ok_or("no table")?;
+    let policy = decode(&words).ok_or("no policy")?;
+    let mut lent = Requests::default();
+    lent.lend(0, &words);
+    exchange(&mut bridge, lent)?;
+
+    let name = "the table test";
+    let tests = vec![Call::new(Function::WellFormed, &[0], &[]); 200];
+    let plain = timed(tests.len(), || {
+        tests
+            .iter()
+            .map(|_| u64::from(second::well_formed(black_box(&words))))
+            .sum()
+    });
+    let proved = proved_timed(&mut bridge, Function::WellFormed, &tests)?;
+    row(name, &plain, &proved, bridge.emulated)?;
+
+    for (stacks, least, most) in [("1 to 8 frames", 1, 8), ("64 frames", 64, 64)] {
+        let one = |_| {
+            let frames = dice.from_to(least, most);
+            full::event(&mut dice, frames)
+        };
+        let events: Vec<OwnEvent> = (0..asked.events).map(one).collect();
+        exchange(&mut bridge, lend(&events))?;
+        let sum = |events: &[OwnEvent], judge: &dyn Fn(&OwnEvent) -> Verdict| -> u64 {
+            let one = |event| u64::from(judge(black_box(event)).packed());
+            events.iter().map(one).sum()
+        };
+
+        let name = format!("{stacks}, no table test");
+        let plain = timed(events.len(), || {
+            sum(&events, &|e| {
+                judge_policy(&policy, e.operation, e.target, &e.lent())
+            })
+        });
+        let proved = proved_judge(&mut bridge, Function::JudgeKnown, &events)?;
+        row(&name, &plain, &proved, bridge.emulated)?;
+
+        let name = format!("{stacks}, table test each");
+        let events = &events[..events.len().div_ceil(TESTED_SHARE)];
+        let plain = timed(events.len(), || {
+            sum(events, &|e| {
+                second::judge(&words, e.operation, e.target, &e.lent())
+            })
+        });
+        let proved = proved_judge(&mut bridge, Function::Judge, events)?;
+        row(&name, &plain, &proved, bridge.emulated)?;
+    }
+    Ok(())
+}
+
+/// Nanoseconds for one call, and the sum of all answers.
+struct Figure {
+    nanoseconds: f64,
+    sum: u64,
+}
+
+fn middle(mut times: Vec<u64>, calls: usize, sum: u64) -> Figure {
+    times.sort_unstable();
+    Figure {
+        nanoseconds: times[times.len() / 2] as f64 / calls as f64,
+        sum,
+    }
+}
+
+fn timed(calls: usize, run: impl Fn() -> u64) -> Figure {
+    let mut sum = 0;
+    let once = |_| {
+        let start = Instant::now();
+        sum = run();
+        start.elapsed().as_nanos() as u64
+    };
+    let times = (0..RUNS).map(once).collect();
+    middle(times, calls, sum)
+}
+
+/// The same inside the bridge, or nothing if the function is not there.
+fn proved_timed(
+    bridge: &mut Bridge,
+    function: Function,
+    calls: &[Call],
+) -> Result<Option<Figure>, String> {
+    if !bridge.has(function) {
+        return Ok(None);
+    }
+    let mut requests = Requests::default();
+    (0..RUNS).for_each(|_| requests.time(1, calls));
+    let replies = exchange(bridge, requests)?;
+    let mut replies = Replies::new(&replies);
+    let (mut times, mut sum) = (Vec::new(), 0);
+    for _ in 0..RUNS {
+        times.push(replies.answer()?);
+        sum = replies.answer()?;
+    }
+    Ok(Some(middle(times, calls.len(), sum)))
+}
+
+/// The slots of an event's stack and allocation stack.
+fn slots(event: usize) -> [u32; 2] {
+    [2 * event as u32 + 1, 2 * event as u32 + 2]
+}
+
+fn lend(events: &[OwnEvent]) -> Requests {
+    let mut requests = Requests::default();
+    for (place, event) in events.iter().enumerate() {
+        let [stack, allocation] = slots(place);
+        requests.lend(stack, &event.stack);
+        requests.lend(allocation, &event.allocation);
+    }
+    requests
+}
+
+fn proved_judge(
+    bridge: &mut Bridge,
+    function: Function,
+    events: &[OwnEvent],
+) -> Result<Option<Figure>, String> {
+    let call = |(place, event)| {
+        let [stack, allocation] = slots(place);
+        judge::call(function, event, [0, stack, allocation])
+    };
+    let calls: Vec<Call> = events.iter().enumerate().map(call).collect();
+    proved_timed(bridge, function, &calls)
+}
+
+fn exchange(bridge: &mut Bridge, requests: Requests) -> Result<Vec<u8>, String> {
+    bridge.send(requests);
+    bridge.receive()
+}
+
+fn row(name: &str, plain: &Figure, proved: &Option<Figure>, emulated: bool) -> Result<(), String> {
+    print!("{name:<32} plain {:>10.0}   proved ", plain.nanoseconds);
+    match proved {
+        None => println!("not there yet"),
+        Some(proved) if proved.sum != plain.sum => {
+            let (proved, plain) = (proved.sum, plain.sum);
+            return Err(format!("answers differ: sums {proved} and {plain}"));
+        }
+        Some(proved) if emulated => println!("{:>10.0} (emulated)", proved.nanoseconds),
+        Some(proved) => {
+            let times = proved.nanoseconds / plain.nanoseconds;
+            println!("{:>10.0}   {times:.2} times", proved.nanoseconds);
+        }
+    }
+    Ok(())
+}

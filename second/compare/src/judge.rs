@@ -1,0 +1,113 @@
+//! `judge` and `judge_known`: a table and an event to a verdict.
+
+use crate::run::{Check, Options};
+use crate::show;
+use crate::wire::{Call, Function, Replies, Requests};
+use cases::events::{self, OwnEvent};
+use cases::{tables, Dice};
+use second::judge::{judge_policy, Verdict};
+use second::{decode, Policy};
+
+const TABLE: u32 = 0;
+const STACK: u32 = 1;
+const ALLOCATION: u32 = 2;
+
+/// How many events a case of `judge_known` has: its table is tested once.
+const KNOWN_EVENTS: usize = 100;
+
+/// Any table and a few events on it.
+pub fn ask(dice: &mut Dice, _: &Options, requests: &mut Requests) -> Check {
+    let words = tables::table(dice);
+    ask_all(dice, Function::Judge, words, 4, requests)
+}
+
+/// A well-formed table and many events on it.
+pub fn ask_known(dice: &mut Dice, _: &Options, requests: &mut Requests) -> Check {
+    let words = tables::sound_table(dice);
+    ask_all(dice, Function::JudgeKnown, words, KNOWN_EVENTS, requests)
+}
+
+fn ask_all(
+    dice: &mut Dice,
+    function: Function,
+    words: Vec<u16>,
+    count: usize,
+    requests: &mut Requests,
+) -> Check {
+    let policy = decode(&words);
+    let one = |_| events::event(dice, policy.as_ref());
+    let events: Vec<OwnEvent> = (0..count).map(one).collect();
+    requests.lend(TABLE, &words);
+    for event in &events {
+        requests.lend(STACK, &event.stack);
+        requests.lend(ALLOCATION, &event.allocation);
+        requests.call(&call(function, event, [TABLE, STACK, ALLOCATION]));
+        requests.show(STACK);
+        requests.show(ALLOCATION);
+    }
+    requests.show(TABLE);
+    Box::new(move |replies, mix| {
+        for event in &events {
+            let plain = plain(policy.as_ref(), event);
+            check(plain, event, replies).map_err(|fault| {
+                show::difference(&[show::table(&words), show::event(event)], fault)
+            })?;
+            mix.count(name(plain));
+        }
+        let table = replies
+            .shown()
+            .and_then(|table| table.check("table", &words));
+        table.map_err(|fault| {
+            let after = format!("after {count} events");
+            show::difference(&[show::table(&words), after], fault)
+        })
+    })
+}
+
+/// The call that judges an event, its stretches lent in these slots.
+pub fn call(function: Function, event: &OwnEvent, slots: [u32; 3]) -> Call {
+    let numbers = [
+        event.operation.into(),
+        event.target.into(),
+        event.uid,
+        event.gid,
+        event.allocation_uid,
+        event.allocation_gid,
+    ];
+    Call::new(function, &slots, &numbers)
+}
+
+/// What `second::judge` answers, the table decoded once for all events.
+fn plain(policy: Option<&Policy>, event: &OwnEvent) -> u32 {
+    let verdict = match policy {
+        None => Verdict::Refused(20),
+        Some(policy) => judge_policy(policy, event.operation, event.target, &event.lent()),
+    };
+    verdict.packed()
+}
+
+fn check(plain: u32, event: &OwnEvent, replies: &mut Replies<'_>) -> Result<(), String> {
+    let answer = replies.answer()?;
+    // Told only when they differ: there are many events.
+    if answer != plain.into() {
+        show::equal(told(answer), told(plain.into()))?;
+    }
+    replies.shown()?.check("stack", &event.stack)?;
+    replies
+        .shown()?
+        .check("allocation stack", &event.allocation)
+}
+
+/// A packed verdict as class and value, for a reader.
+fn told(packed: u64) -> String {
+    format!("class {} value {}", packed >> 16, packed & 0xFFFF)
+}
+
+fn name(packed: u32) -> String {
+    match packed >> 16 {
+        0 => "inside one domain".to_string(),
+        1 => "allowed by an entry".to_string(),
+        2 => format!("violation {}", packed & 0xFFFF),
+        _ => format!("refused {}", packed & 0xFFFF),
+    }
+}

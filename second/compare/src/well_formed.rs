@@ -1,0 +1,34 @@
+//! `well_formed`: a table to yes or no.
+
+use crate::run::{Check, Options};
+use crate::show;
+use crate::wire::{Call, Function, Replies, Requests};
+use cases::{tables, Dice};
+
+pub fn ask(dice: &mut Dice, _: &Options, requests: &mut Requests) -> Check {
+    let words = if dice.percent(50) {
+        tables::doubtful_table(dice)
+    } else {
+        tables::table(dice)
+    };
+    requests.lend(0, &words);
+    requests.call(&Call::new(Function::WellFormed, &[0], &[]));
+    requests.show(0);
+    Box::new(move |replies, mix| {
+        let plain = second::well_formed(&words);
+        check(&words, plain, replies)
+            .map_err(|fault| show::difference(&[show::table(&words)], fault))?;
+        mix.count(plain);
+        Ok(())
+    })
+}
+
+fn check(words: &[u16], plain: bool, replies: &mut Replies<'_>) -> Result<(), String> {
+    let answer = match replies.answer()? {
+        0 => "false".to_string(),
+        1 => "true".to_string(),
+        other => other.to_string(),
+    };
+    show::equal(answer, plain.to_string())?;
+    replies.shown()?.check("table", words)
+}

@@ -1,0 +1,219 @@
+//! `compare` itself, tried on a stand-in for the bridge: a right one passes,
+//! a wrong one is found and printed.
+
+use compare::lent::Lent;
+use compare::{run, Bridge, Options};
+use std::process::Command;
+
+const STAND_IN: &str = env!("CARGO_BIN_EXE_stand-in");
+
+fn options(line: &str) -> Result<Options, String> {
+    let arguments: Vec<String> = line.split_whitespace().map(String::from).collect();
+    Options::of(&arguments)
+}
+
+/// Whether all was equal, and what was printed.
+fn compared(fault: &str, options: &Options) -> (bool, String) {
+    let mut command = Command::new(STAND_IN);
+    command.env("STAND_IN", fault);
+    let mut bridge = Bridge::start(command).unwrap();
+    let mut out = Vec::new();
+    let equal = run(&mut bridge, options, &mut out).unwrap();
+    (equal, String::from_utf8(out).unwrap())
+}
+
+#[test]
+fn a_right_stand_in_is_equal() {
+    let (equal, printed) = compared("", &options("--count 300").unwrap());
+    assert!(equal, "{printed}");
+    for name in ["well_formed", "judge", "judge_known", "overlap", "page"] {
+        let line = format!("{name}: 300 cases equal\n");
+        assert!(printed.contains(&line), "{printed}");
+    }
+    println!("{printed}");
+}
+
+/// A fault is found, printed, and found again by the replay line.
+fn found(fault: &str, line: &str, words: &[&str]) {
+    let asked = options(line).unwrap();
+    let (equal, printed) = compared(fault, &asked);
+    assert!(!equal, "not found: {fault}");
+    for word in words {
+        assert!(printed.contains(word), "no {word:?} in {printed}");
+    }
+    let replay = printed.lines().last().unwrap();
+    let replay = options(replay.strip_prefix("replay: ").unwrap()).unwrap();
+    assert_eq!(replay.exact_witness, asked.exact_witness);
+    assert_eq!(compared(fault, &replay), (false, printed));
+}
+
+#[test]
+fn wrong_well_formed_is_found() {
+    found(
+        "every table is well formed",
+        "--only well_formed",
+        &[
+            "proved: \"true\"",
+            "plain:  \"false\"",
+            "seed 1, case",
+            "table of",
+        ],
+    );
+    found(
+        "words after the descriptors are not looked at",
+        "--only well_formed",
+        &["proved: \"true\""],
+    );
+}
+
+#[test]
+fn wrong_judges_are_found() {
+    for name in ["judge", "judge_known"] {
+        let only = format!("--only {name} --seed 2");
+        let replay = format!("replay: --only {name} --seed 2 --from");
+        found(
+            "all is inside one domain",
+            &only,
+            &["class 0 value 0", "OwnEvent", "stack: [", &replay],
+        );
+        found(
+            "gid is not looked at",
+            &only,
+            &["proved: \"class 1", "plain:  \"class"],
+        );
+    }
+    // A table is lent for many events and looked at after the last.
+    found(
+        "a table is changed",
+        "--only judge_known",
+        &["proved: \"class 3 value 20\""],
+    );
+    found(
+        "a word before the table is changed",
+        "--only judge_known",
+        &[
+            "after 100 events",
+            "table: written outside of what was lent",
+        ],
+    );
+}
+
+#[test]
+fn wrong_reports_are_found() {
+    let only = "--only overlap";
+    found(
+        "every table is clear",
+        only,
+        &[
+            "proved: \"refusal 0 lower 0",
+            "plain:  \"refusal",
+            "witness of",
+        ],
+    );
+    found("word 32 is changed", only, &["witness: place 32"]);
+    found(
+        "a word past the witness is changed",
+        only,
+        &["witness: written outside of what was lent"],
+    );
+    // One that no entry matches is found without the exact one too.
+    found(
+        "a witness is unreal",
+        "--only overlap --exact-witness off",
+        &["does not match"],
+    );
+}
+
+#[test]
+fn a_longer_real_witness_passes_only_without_exact() {
+    let fault = "a witness is longer";
+    found(fault, "--only overlap", &["length 2", "length 1"]);
+    let any = options("--only overlap --exact-witness off --count 2000").unwrap();
+    assert!(compared(fault, &any).0);
+}
+
+#[test]
+fn wrong_pages_are_found() {
+    let only = "--only page";
+    found("every page is fine", only, &["text of", "number 0"]);
+    found("a line is one too small", only, &["number 9"]);
+}
+
+#[test]
+fn the_case_at_which_a_bridge_ends_is_found() {
+    found(
+        "a page ends the bridge",
+        "--only page",
+        &["text of", "proved: the bridge ended, exit status: 7"],
+    );
+}
+
+#[test]
+fn functions_that_are_not_there_are_said() {
+    let fault = "only the page is there";
+    let (equal, printed) = compared(fault, &options("--count 10").unwrap());
+    assert!(equal);
+    assert!(printed.starts_with("well_formed: not there yet\njudge: not there yet\n"));
+    assert!(printed.contains("page: 10 cases equal"));
+    for line in ["--only judge", "--need page,judge"] {
+        assert!(!compared(fault, &options(line).unwrap()).0);
+    }
+    assert!(compared(fault, &options("--need page --count 10").unwrap()).0);
+    let (equal, printed) = compared("nothing is there", &options("").unwrap());
+    assert!(!equal && printed.ends_with("nothing was compared\n"));
+}
+
+/// The program as it is run, its status too.
+#[test]
+fn the_program_tells_a_difference_by_its_status() {
+    let run = |fault: &str, arguments: &[&str]| {
+        let mut command = Command::new(env!("CARGO_BIN_EXE_compare"));
+        command.env("DOVETENON_BRIDGE", STAND_IN);
+        let output = command.env("STAND_IN", fault).args(arguments).output();
+        let output = output.unwrap();
+        let printed = String::from_utf8(output.stdout).unwrap();
+        (output.status.code(), printed)
+    };
+    let (status, printed) = run("", &["--count", "20", "--only", "page"]);
+    assert_eq!(status, Some(0));
+    assert!(printed.starts_with("page: 20 cases equal\n"));
+    let (status, printed) = run("every page is fine", &["--only", "page"]);
+    assert_eq!(status, Some(1));
+    assert!(printed.starts_with("page: difference at seed 1, case"));
+    assert_eq!(run("", &["--strange", "1"]).0, Some(2));
+    assert_eq!(run("", &["--bridge", "no-such-bridge"]).0, Some(2));
+}
+
+#[test]
+fn what_is_lent_is_watched() {
+    let mut lent = Lent::new(&[1u16, 2]);
+    assert_eq!(lent.check("it", &[1, 2]), Ok(()));
+    lent.get_mut()[1] = 3;
+    assert!(lent.check("it", &[1, 2]).unwrap_err().contains("place 1"));
+    assert!(lent.check("it", &[1]).is_err());
+    assert_eq!(lent.check("it", &[1, 3]), Ok(()));
+    lent.all_mut()[0] = 3;
+    assert!(lent.check("it", &[1, 3]).unwrap_err().contains("outside"));
+}
+
+#[test]
+fn options_are_read() {
+    assert_eq!(options(""), Ok(Options::default()));
+    let all = "--seed 3 --count 4 --from 5 --only judge --exact-witness off --bridge b";
+    let all = options(all).unwrap();
+    assert_eq!((all.seed, all.count, all.from), (3, 4, 5));
+    assert_eq!(all.only.as_deref(), Some("judge"));
+    assert_eq!(all.bridge.as_deref(), Some("b"));
+    assert!(!all.exact_witness);
+    let wrong = [
+        "--seed",
+        "--seed x",
+        "--strange 1",
+        "--exact-witness maybe",
+        "--only jury",
+        "--need judge,jury",
+    ];
+    for wrong in wrong {
+        assert!(options(wrong).is_err());
+    }
+}

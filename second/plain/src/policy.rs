@@ -1,0 +1,184 @@
+//! The meaning of an accepted file: numbers in place of names.
+
+use std::collections::BTreeSet;
+
+pub const DOMAINS: usize = 128;
+pub const MEMBERS: usize = 1_024;
+pub const ENTRIES: usize = 128;
+pub const ELEMENTS: usize = 16;
+pub const DESCRIPTORS: usize = 256;
+
+/// An element of a pattern.
+#[derive(Clone, Copy, Debug, PartialEq, Eq, PartialOrd, Ord, Hash)]
+pub enum Element {
+    All,
+    Function(u16),
+}
+
+/// The sort of a uid.
+#[derive(Clone, Copy, Debug, PartialEq, Eq, PartialOrd, Ord, Hash)]
+pub enum Uid {
+    All,
+    Variable,
+    Root,
+    User,
+}
+
+/// The sort of a gid.
+#[derive(Clone, Copy, Debug, PartialEq, Eq, PartialOrd, Ord, Hash)]
+pub enum Gid {
+    All,
+    Variable,
+}
+
+#[derive(Clone, Debug, PartialEq, Eq, PartialOrd, Ord, Hash)]
+pub struct Context {
+    pub pattern: Vec<Element>,
+    pub uid: Uid,
+    pub gid: Gid,
+}
+
+impl Context {
+    /// "Omitted ones are `[all]`, `all`, `all`."
+    pub fn all() -> Context {
+        Context {
+            pattern: vec![Element::All],
+            uid: Uid::All,
+            gid: Gid::All,
+        }
+    }
+}
+
+/// The domains that are granted.
+#[derive(Clone, Debug, PartialEq, Eq)]
+pub enum Grant {
+    All,
+    Domains(BTreeSet<u16>),
+}
+
+impl Grant {
+    pub fn holds(&self, domain: u16) -> bool {
+        match self {
+            Grant::All => true,
+            Grant::Domains(domains) => domains.contains(&domain),
+        }
+    }
+
+    /// Whether every domain named is below the count.
+    fn below(&self, count: u16) -> bool {
+        match self {
+            Grant::All => true,
+            Grant::Domains(domains) => domains.iter().all(|&domain| domain < count),
+        }
+    }
+}
+
+/// An access descriptor.
+#[derive(Clone, Debug, PartialEq, Eq)]
+pub struct Descriptor {
+    pub objects: Grant,
+    pub context: Context,
+}
+
+impl Descriptor {
+    /// What `can_read: all` stands for.
+    pub fn all() -> Descriptor {
+        Descriptor {
+            objects: Grant::All,
+            context: Context::all(),
+        }
+    }
+}
+
+#[derive(Clone, Debug, PartialEq, Eq)]
+pub struct Entry {
+    pub subject: u16,
+    pub context: Context,
+    pub can_call: Grant,
+    pub can_return: Grant,
+    pub can_read: Vec<Descriptor>,
+    pub can_write: Vec<Descriptor>,
+}
+
+impl Entry {
+    /// The read descriptors, then the write descriptors.
+    pub fn descriptors(&self) -> impl Iterator<Item = &Descriptor> {
+        self.can_read.iter().chain(&self.can_write)
+    }
+
+    /// "Principals are the same when subject and pattern elements are equal
+    /// and uid and gid are of the same sort."
+    pub fn same_principal(&self, other: &Entry) -> bool {
+        self.subject == other.subject && self.context == other.context
+    }
+
+    /// "A variable in an object context has a variable at the same key of its
+    /// entry" (point 21).
+    fn binds(&self, context: &Context) -> bool {
+        let uid = context.uid != Uid::Variable || self.context.uid == Uid::Variable;
+        let gid = context.gid != Gid::Variable || self.context.gid == Gid::Variable;
+        uid && gid
+    }
+}
+
+#[derive(Clone, Debug, PartialEq, Eq)]
+pub struct Policy {
+    pub object_domains: u16,
+    pub subject_domains: u16,
+    /// The domain of each object, and of each function.
+    pub objects: Vec<u16>,
+    pub functions: Vec<u16>,
+    pub entries: Vec<Entry>,
+}
+
+impl Policy {
+    /// What "well formed" asks of the numbers: counts within the limits,
+    /// every number below its count, no two entries with one principal,
+    /// object variables bound.
+    pub fn is_sound(&self) -> bool {
+        let descriptors: usize = self
+            .entries
+            .iter()
+            .map(|entry| entry.can_read.len() + entry.can_write.len())
+            .sum();
+        usize::from(self.object_domains) <= DOMAINS
+            && usize::from(self.subject_domains) <= DOMAINS
+            && self.objects.len() <= MEMBERS
+            && self.functions.len() <= MEMBERS
+            && self.entries.len() <= ENTRIES
+            && descriptors <= DESCRIPTORS
+            && self.objects.iter().all(|&d| d < self.object_domains)
+            && self.functions.iter().all(|&d| d < self.subject_domains)
+            && self.entries.iter().all(|entry| self.sound_entry(entry))
+            && first_repeat(&self.entries).is_none()
+    }
+
+    fn sound_entry(&self, entry: &Entry) -> bool {
+        entry.subject < self.subject_domains
+            && self.sound_context(&entry.context)
+            && entry.can_call.below(self.subject_domains)
+            && entry.can_return.below(self.subject_domains)
+            && entry.descriptors().all(|descriptor| {
+                self.sound_context(&descriptor.context)
+                    && entry.binds(&descriptor.context)
+                    && descriptor.objects.below(self.object_domains)
+            })
+    }
+
+    fn sound_context(&self, context: &Context) -> bool {
+        (1..=ELEMENTS).contains(&context.pattern.len())
+            && context.pattern.iter().all(|element| match element {
+                Element::All => true,
+                Element::Function(function) => usize::from(*function) < self.functions.len(),
+            })
+    }
+}
+
+/// The first entry whose principal an earlier entry has (11).
+pub fn first_repeat(entries: &[Entry]) -> Option<usize> {
+    (0..entries.len()).find(|&later| {
+        entries[..later]
+            .iter()
+            .any(|earlier| earlier.same_principal(&entries[later]))
+    })
+}

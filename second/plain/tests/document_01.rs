@@ -1,0 +1,389 @@
+//! The example, the trials and the numbers of document 01.
+
+use second::policy::{Context, Descriptor, Element, Entry, Gid, Grant, Policy, Uid};
+use second::*;
+use std::collections::BTreeSet;
+
+const EXAMPLE: &str = "object_map:
+- name: Meter
+  objects: [GLOBAL|m.c|4|kwh]
+subject_map:
+- name: Main
+  subjects: [m.c|main]
+- name: Bill
+  subjects: [b.c|add, b.c|sum]
+privileges:
+- principal:
+    subject: Bill
+    execution_context:
+      uid: U
+  can_call: []
+  can_return: [Main]
+  can_read:
+  - objects: [Meter]
+  can_write:
+";
+
+const FILLED: &str = "- principal:
+    subject: Bill
+    execution_context:
+      call_context: [all]
+      uid: U
+      gid: all
+  can_call: []
+  can_return: [Main]
+  can_read:
+  - objects: [Meter]
+    object_context:
+      call_context: [all]
+      uid: all
+      gid: all
+  can_write: []
+";
+
+fn filled_example() -> String {
+    let nine: Vec<&str> = EXAMPLE.lines().take(9).collect();
+    nine.join("\n") + "\n" + FILLED
+}
+
+fn table_of(text: &str) -> Vec<u16> {
+    let mut table = vec![7; TABLE_WORDS];
+    assert_eq!(read(text.as_bytes(), &mut table), Ok(()));
+    table
+}
+
+fn event(stack: &[u16], uid: u32) -> Event<'_> {
+    Event {
+        stack,
+        uid,
+        gid: 0,
+        allocation: &[],
+        allocation_uid: 0,
+        allocation_gid: 0,
+    }
+}
+
+fn refusal(text: &str) -> (u16, u32) {
+    match policy_of(text.as_bytes()) {
+        Ok(_) => (0, 0),
+        Err(refusal) => (refusal.number, refusal.line),
+    }
+}
+
+#[test]
+fn the_example_is_filled_as_shown() {
+    let mut output = vec![b'?'; 70_000];
+    let length = fill(EXAMPLE.as_bytes(), &mut output).unwrap();
+    assert_eq!(
+        std::str::from_utf8(&output[..length]),
+        Ok(filled_example().as_str())
+    );
+    assert!(output[length..].iter().all(|&byte| byte == b'?'));
+}
+
+#[test]
+fn trials_p1_to_p7() {
+    let table = table_of(EXAMPLE);
+    let judged = |stack: &[u16], operation, target| {
+        judge(&table, operation, target, &event(stack, 5)).packed()
+    };
+    assert_eq!(judged(&[0, 1], 4, 0), Verdict::Allowed(0).packed(), "P1");
+    assert_eq!(judged(&[0, 1], 3, 2), Verdict::Inside.packed(), "P2");
+    assert_eq!(judged(&[0, 1], 3, 0), Verdict::Violation(4).packed(), "P3");
+    assert_eq!(judged(&[0], 3, 1), Verdict::Violation(3).packed(), "P4");
+    assert_eq!(judged(&[0, 9], 3, 0), Verdict::Violation(1).packed(), "P5");
+    assert_eq!(judged(&[0, 1], 1, 7), Verdict::Violation(2).packed(), "P6");
+    assert_eq!(judged(&[0, 1], 1, 0), Verdict::Allowed(0).packed(), "P7");
+}
+
+/// Two entries for Bill with these call contexts and uids.
+fn two_entries(one: (&str, &str), other: (&str, &str)) -> String {
+    let maps: Vec<&str> = EXAMPLE.lines().take(9).collect();
+    let mut text = maps.join("\n") + "\n";
+    for (pattern, uid) in [one, other] {
+        text += "- principal:\n    subject: Bill\n    execution_context:\n";
+        text += &format!("      call_context: [{pattern}]\n      uid: {uid}\n");
+    }
+    for (number, name) in [("0", "m.c|main"), ("1", "b.c|add"), ("2", "b.c|sum")] {
+        text = text.replace(&format!("<{number}>"), name);
+    }
+    text
+}
+
+fn report(one: (&str, &str), other: (&str, &str)) -> (Overlap, Vec<u16>) {
+    let table = table_of(&two_entries(one, other));
+    let mut witness = vec![9; 40];
+    let answer = overlap(&table, &mut witness);
+    assert!(witness[32..].iter().all(|&word| word == 9));
+    witness.truncate(32);
+    (answer, witness)
+}
+
+fn clash(length: u16, uid: u16) -> Overlap {
+    Overlap::Clash {
+        lower: 0,
+        higher: 1,
+        length,
+        uid,
+    }
+}
+
+#[test]
+fn trials_p8_to_p12() {
+    let (answer, witness) = report(("<0>, all", "all"), ("all, <1>", "all"));
+    assert_eq!((answer, &witness[..3]), (clash(2, 0), &[0, 1, 0][..]), "P8");
+    let (answer, witness) = report(("<0>, <1>", "all"), ("<0>, <2>", "all"));
+    assert_eq!((answer, witness), (Overlap::Clear, vec![0; 32]), "P9");
+    let (answer, witness) = report(("<0>, all, <1>", "all"), ("all, <2>, <1>", "all"));
+    assert_eq!(
+        (answer, &witness[..4]),
+        (clash(3, 0), &[0, 2, 1, 0][..]),
+        "P10"
+    );
+    assert_eq!(
+        report(("all", "root"), ("all", "user")).0,
+        Overlap::Clear,
+        "P11"
+    );
+    assert_eq!(
+        report(("all, <0>", "all"), ("all", "all")).0,
+        Overlap::Clear,
+        "P12"
+    );
+    // The uid of the moment is 1 if either entry says `user`.
+    assert_eq!(report(("all, <1>", "U"), ("all", "user")).0, clash(1, 1));
+    assert_eq!(report(("all, all", "root"), ("all", "U")).0, clash(1, 0));
+}
+
+/// The example with so many elements in its call context.
+fn with_elements(count: usize) -> String {
+    let pattern = vec!["all"; count].join(", ");
+    EXAMPLE.replace(
+        "      uid: U\n",
+        &format!("      call_context: [{pattern}]\n      uid: U\n"),
+    )
+}
+
+#[test]
+fn run_only_trials() {
+    assert_eq!(refusal(&with_elements(16)), (0, 0));
+    assert_eq!(refusal(&with_elements(17)), (6, 13));
+    let table = table_of(EXAMPLE);
+    for (frames, verdict) in [(64, Verdict::Allowed(0)), (65, Verdict::Refused(21))] {
+        let mut stack = vec![700; frames];
+        stack[frames - 1] = 1;
+        assert_eq!(judge(&table, 4, 0, &event(&stack, 5)), verdict);
+    }
+    let named = |length| EXAMPLE.replace("Meter", &"m".repeat(length));
+    assert_eq!(refusal(&named(64)), (0, 0));
+    assert_eq!(refusal(&named(65)), (5, 2));
+    let unbound = EXAMPLE.replace("      uid: U\n", "      gid: U\n").replace(
+        "  - objects: [Meter]\n",
+        "  - objects: [Meter]\n    object_context:\n      uid: U\n",
+    );
+    assert_eq!(refusal(&unbound), (10, 19));
+}
+
+#[test]
+fn numbers_1_to_11_and_what_they_leave() {
+    let mut short = vec![3; TABLE_WORDS - 1];
+    assert_eq!(read(b"", &mut short), Err(Refusal::of(1)));
+    assert!(short.iter().all(|&word| word == 3));
+    let long = "#".repeat(65_537);
+    let twice = EXAMPLE.replace("name: Main", "name: Meter");
+    let same = EXAMPLE.to_string()
+        + "- principal:\n    subject: Bill\n    execution_context:\n      uid: V\n";
+    let cases = [
+        (long.as_str(), (2, 0)),
+        ("object_map: []\n\t\n", (3, 2)),
+        ("object_map: [] \n", (4, 1)),
+        ("", (4, 1)),
+        (&EXAMPLE.replace("|4|", "|04|"), (5, 3)),
+        (&with_elements(17), (6, 13)),
+        (&twice, (7, 5)),
+        (&EXAMPLE.replace("[Main]", "[Meter]"), (8, 15)),
+        (&EXAMPLE.replace("uid: U", "uid:"), (9, 13)),
+        (&same, (11, 19)),
+    ];
+    for (text, expected) in cases {
+        let mut table = vec![5; TABLE_WORDS + 3];
+        let refused = read(text.as_bytes(), &mut table).unwrap_err();
+        assert_eq!((refused.number, refused.line), expected, "{text}");
+        assert!(table[..TABLE_WORDS].iter().all(|&word| word == 0));
+        assert_eq!(table[TABLE_WORDS..], [5, 5, 5]);
+    }
+}
+
+#[test]
+fn judge_numbers_20_to_23_in_order() {
+    let table = table_of(EXAMPLE);
+    let mut bad = table.clone();
+    bad[16_383] = 1;
+    let long = vec![0; 65];
+    let mut all_wrong = event(&[], 0);
+    all_wrong.allocation = &long;
+    assert_eq!(judge(&bad, 0, 0, &all_wrong), Verdict::Refused(20));
+    assert_eq!(
+        judge(&table[..16_383], 0, 0, &all_wrong),
+        Verdict::Refused(20)
+    );
+    assert_eq!(judge(&table, 0, 0, &all_wrong), Verdict::Refused(21));
+    all_wrong.stack = &[900];
+    assert_eq!(judge(&table, 5, 900, &all_wrong), Verdict::Refused(22));
+    assert_eq!(judge(&table, 3, 900, &all_wrong), Verdict::Refused(22));
+    all_wrong.allocation = &[];
+    for operation in [0, 5, 6, 65_535] {
+        assert_eq!(
+            judge(&table, operation, 900, &all_wrong),
+            Verdict::Refused(23)
+        );
+    }
+}
+
+#[test]
+fn filler_numbers_30_and_31_leave_the_output() {
+    let length = filled_example().len();
+    for room in [0, 1, length - 1] {
+        let mut output = vec![1; room];
+        assert_eq!(fill(EXAMPLE.as_bytes(), &mut output), Err(Refusal::of(30)));
+        assert!(output.iter().all(|&byte| byte == 1));
+    }
+    let mut output = vec![1; length];
+    assert_eq!(fill(EXAMPLE.as_bytes(), &mut output), Ok(length));
+    assert_eq!(output, filled_example().into_bytes());
+    // 60,000 bytes of identifiers and 101 descriptors give more than 65,536.
+    let members: Vec<String> = (0..500).map(|n| format!("m.c|{n:0>114}")).collect();
+    let mut long = EXAMPLE.replace("m.c|main", &format!("m.c|main, {}", members.join(", ")));
+    // The example ends with a bare `can_write`, so these are its items.
+    long += &"  - objects:\n".repeat(100);
+    assert!(long.len() < 65_536);
+    let mut output = vec![1; 10];
+    assert_eq!(fill(long.as_bytes(), &mut output), Err(Refusal::of(31)));
+    assert_eq!(output, vec![1; 10]);
+}
+
+#[test]
+fn report_numbers_20_and_40_leave_the_witness() {
+    let table = table_of(EXAMPLE);
+    let mut witness = vec![8; 31];
+    assert_eq!(overlap(&table[1..], &mut witness), Overlap::Refused(20));
+    assert_eq!(overlap(&table, &mut witness), Overlap::Refused(40));
+    assert_eq!(witness, vec![8; 31]);
+    let mut witness = vec![8; 33];
+    assert_eq!(overlap(&table, &mut witness), Overlap::Clear);
+    assert_eq!((&witness[..32], witness[32]), (&[0; 32][..], 8));
+}
+
+#[test]
+fn lookup_gives_the_very_stretch() {
+    let text = EXAMPLE.as_bytes();
+    for (map, domain, name) in [
+        (Map::Objects, 0, "Meter"),
+        (Map::Subjects, 0, "Main"),
+        (Map::Subjects, 1, "Bill"),
+    ] {
+        let (start, length) = lookup(text, map, domain);
+        assert_eq!(&EXAMPLE[start..start + length], name);
+        assert_eq!(start, EXAMPLE.find(&format!("name: {name}")).unwrap() + 6);
+    }
+    assert_eq!(lookup(text, Map::Objects, 1), (0, 0));
+    assert_eq!(lookup(text, Map::Subjects, 2), (0, 0));
+    assert_eq!(lookup(&text[..text.len() - 1], Map::Objects, 0), (0, 0));
+    assert_eq!(lookup(b"", Map::Objects, 0), (0, 0));
+}
+
+#[test]
+fn slips_to_expect() {
+    let all = Element::All;
+    let f = Element::Function;
+    assert!(matches(&[f(0), all, f(1)], &[0, 1]), "`all` needs no frame");
+    assert!(matches(&[all, all], &[]) && !matches(&[f(0)], &[]));
+    // An omitted `can_write` is all, a bare one none.
+    let omitted = EXAMPLE.replace("  can_write:\n", "");
+    let write = |text: &str| judge(&table_of(text), 2, 0, &event(&[1], 0));
+    assert_eq!(write(&omitted), Verdict::Allowed(0));
+    assert_eq!(write(EXAMPLE), Verdict::Violation(4));
+    // A later matching entry grants.
+    let later = EXAMPLE.to_string() + "- principal:\n    subject: Bill\n";
+    assert_eq!(write(&later), Verdict::Allowed(1));
+}
+
+/// Whether an entry that binds uid and gid may read an object under this
+/// object context. The ids are the event's, then the allocation's.
+fn may_read(object: &Context, allocation: &[u16], uids: (u32, u32), gids: (u32, u32)) -> bool {
+    let entry = Entry {
+        subject: 0,
+        context: context(&[Element::All], Uid::Variable, Gid::Variable),
+        can_call: Grant::All,
+        can_return: Grant::All,
+        can_read: vec![Descriptor {
+            objects: Grant::Domains(BTreeSet::from([0])),
+            context: object.clone(),
+        }],
+        can_write: vec![],
+    };
+    let policy = Policy {
+        object_domains: 1,
+        subject_domains: 1,
+        objects: vec![0],
+        functions: vec![0],
+        entries: vec![entry],
+    };
+    let event = Event {
+        stack: &[0],
+        uid: uids.0,
+        gid: gids.0,
+        allocation,
+        allocation_uid: uids.1,
+        allocation_gid: gids.1,
+    };
+    judge(&encode(&policy).unwrap(), 1, 0, &event) == Verdict::Allowed(0)
+}
+
+fn context(pattern: &[Element], uid: Uid, gid: Gid) -> Context {
+    let pattern = pattern.to_vec();
+    Context { pattern, uid, gid }
+}
+
+#[test]
+fn object_contexts_of_static_and_allocated_objects() {
+    let all = [Element::All; 2];
+    let bound = context(&all, Uid::Variable, Gid::Variable);
+    assert!(may_read(&bound, &[5], (7, 7), (8, 8)));
+    assert!(!may_read(&bound, &[5], (7, 8), (8, 8)));
+    assert!(!may_read(&bound, &[5], (7, 7), (8, 9)));
+    assert!(!may_read(&bound, &[], (0, 0), (0, 0)));
+    let open = context(&all, Uid::All, Gid::All);
+    assert!(may_read(&open, &[], (7, 1), (8, 2)));
+    let named = context(&[Element::Function(0), Element::All], Uid::All, Gid::All);
+    assert!(may_read(&named, &[0, 900], (0, 1), (0, 1)));
+    assert!(!may_read(&named, &[900, 0], (0, 1), (0, 1)));
+    assert!(!may_read(&named, &[], (0, 0), (0, 0)));
+    let root = context(&all, Uid::Root, Gid::All);
+    assert!(may_read(&root, &[3], (4, 0), (0, 1)));
+    assert!(!may_read(&root, &[3], (4, 1), (0, 1)));
+    assert!(!may_read(&root, &[], (0, 0), (0, 0)));
+    let user = context(&all, Uid::User, Gid::All);
+    assert!(may_read(&user, &[3], (0, 1), (0, 1)));
+    assert!(!may_read(&user, &[3], (1, 0), (0, 1)));
+    assert!(!may_read(&user, &[], (0, 1), (0, 1)));
+    let group = context(&all, Uid::All, Gid::Variable);
+    assert!(!may_read(&group, &[], (0, 0), (0, 0)));
+}
+
+#[test]
+fn the_table_of_the_example_word_by_word() {
+    let table = table_of(EXAMPLE);
+    let mut expected = vec![0; TABLE_WORDS];
+    let mut put = |at: usize, words: &[u16]| expected[at..at + words.len()].copy_from_slice(words);
+    put(0, &[17_492, 1, 2, 1, 3, 1]);
+    put(1_056, &[0, 1, 1]);
+    put(2_080, &[1, 1]);
+    put(2_080 + 20, &[1, 1, 0]);
+    put(2_080 + 33, &[0, 1]);
+    put(7_712, &[1]);
+    put(7_712 + 20, &[0, 1]);
+    assert_eq!(table, expected);
+    assert!(well_formed(&table));
+    assert_eq!(decode(&table), policy_of(EXAMPLE.as_bytes()).ok());
+}
