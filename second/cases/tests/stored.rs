@@ -9,7 +9,7 @@ use std::path::Path;
 #[test]
 fn stored_files_are_made_again_byte_for_byte() {
     for (name, bytes) in files() {
-        let stored = std::fs::read(Path::new("../stored").join(name)).unwrap();
+        let stored = std::fs::read(Path::new("../../crates/replay/data").join(name)).unwrap();
         assert!(stored == bytes, "{name} is not what `store` makes");
     }
 }
@@ -30,7 +30,7 @@ struct Replay {
 
 impl Replay {
     fn of(name: &str) -> Replay {
-        let bytes = std::fs::read(Path::new("../stored").join(name)).unwrap();
+        let bytes = std::fs::read(Path::new("../../crates/replay/data").join(name)).unwrap();
         Replay { bytes, at: 0 }
     }
 

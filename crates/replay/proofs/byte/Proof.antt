@@ -1,9 +1,9 @@
 use native.Mathlib.Omega.{arith}
 use borrow.Author.Needs.{needs}
-use Rattle.replay_judge.proofs.byte.Statement.{statement}
-use Rattle.replay_judge.proofs.byte.Tie as tie
-use Rattle.replay_judge.proofs.byte.Reads as reads
-use Rattle.replay_judge.proofs.byte.Lts as lts
+use Rattle.replay.proofs.byte.Statement.{statement}
+use Rattle.replay.proofs.byte.Tie as tie
+use Rattle.replay.proofs.byte.Reads as reads
+use Rattle.replay.proofs.byte.Lts as lts
 
 -- src/main.rt:20:9
 shared-slice-read-result : tie.Need-shared-slice-read-result

@@ -3,13 +3,13 @@ use lib.ListN.{length}
 use Prim.Native.Nat.{_≤_, _-_}
 use borrow.Author.Needs.{needs}
 use native.Mathlib.Omega.{arith}
-use Rattle.replay_judge.proofs.load_runs.Statement.{statement}
-use Rattle.replay_judge.proofs.load_runs.Tie as tie
-use Rattle.replay_judge.proofs.load_runs.Reads as reads
-use Rattle.replay_judge.proofs.load_runs.Lts as lts
-use Rattle.replay_judge.proofs.after.Reads as after-reads
-use Rattle.replay_judge.proofs.load.Reads as load-reads
-use Rattle.replay_judge.proofs.short.Reads as short-reads
+use Rattle.replay.proofs.load_runs.Statement.{statement}
+use Rattle.replay.proofs.load_runs.Tie as tie
+use Rattle.replay.proofs.load_runs.Reads as reads
+use Rattle.replay.proofs.load_runs.Lts as lts
+use Rattle.replay.proofs.after.Reads as after-reads
+use Rattle.replay.proofs.load.Reads as load-reads
+use Rattle.replay.proofs.short.Reads as short-reads
 
 abbrev Inv-loop : tie.InvT-loop
 Inv-loop b at runs table₀ next₀ i₀ table next i = (i ≤ runs) × (length table ≡ length table₀)

@@ -1,12 +1,12 @@
 use Prim.Native.Nat.{_≤_, _-_}
 use borrow.Author.Needs.{needs}
 use native.Mathlib.Omega.{arith}
-use Rattle.replay_judge.proofs.replay_tables.Statement.{statement}
-use Rattle.replay_judge.proofs.replay_tables.Tie as tie
-use Rattle.replay_judge.proofs.replay_tables.Reads as reads
-use Rattle.replay_judge.proofs.replay_tables.Lts as lts
-use Rattle.replay_judge.proofs.long.Reads as long-reads
-use Rattle.replay_judge.proofs.replay_table.Reads as replay-table-reads
+use Rattle.replay.proofs.replay_tables.Statement.{statement}
+use Rattle.replay.proofs.replay_tables.Tie as tie
+use Rattle.replay.proofs.replay_tables.Reads as reads
+use Rattle.replay.proofs.replay_tables.Lts as lts
+use Rattle.replay.proofs.long.Reads as long-reads
+use Rattle.replay.proofs.replay_table.Reads as replay-table-reads
 
 abbrev Inv-loop : tie.InvT-loop
 Inv-loop b tally₀ tables i₀ tally i = i ≤ tables

@@ -1,5 +1,5 @@
 // Judges the trials of document 01 and the stored cases, and writes how many answers differ from those stored.
-// data/judge.cases and what its bytes mean: second/stored/README.md.
+// What the bytes of data/judge.cases mean: data/README.md.
 ghost use Prim.Native.Nat.{_<_};
 
 // So many bytes further; far past any file it stays where it is.

@@ -3,13 +3,13 @@ use lib.ListN.{length}
 use Prim.Native.Nat.{_≤_, _-_}
 use borrow.Author.Needs.{needs}
 use native.Mathlib.Omega.{arith}
-use Rattle.replay_judge.proofs.load.Statement.{statement}
-use Rattle.replay_judge.proofs.load.Tie as tie
-use Rattle.replay_judge.proofs.load.Reads as reads
-use Rattle.replay_judge.proofs.load.Lts as lts
-use Rattle.replay_judge.proofs.after.Reads as after-reads
-use Rattle.replay_judge.proofs.put.Reads as put-reads
-use Rattle.replay_judge.proofs.short.Reads as short-reads
+use Rattle.replay.proofs.load.Statement.{statement}
+use Rattle.replay.proofs.load.Tie as tie
+use Rattle.replay.proofs.load.Reads as reads
+use Rattle.replay.proofs.load.Lts as lts
+use Rattle.replay.proofs.after.Reads as after-reads
+use Rattle.replay.proofs.put.Reads as put-reads
+use Rattle.replay.proofs.short.Reads as short-reads
 
 abbrev Inv-loop : tie.InvT-loop
 Inv-loop b at n words₀ to i₀ words i = (i ≤ n) × (length words ≡ length words₀)

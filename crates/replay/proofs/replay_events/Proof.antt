@@ -1,11 +1,11 @@
 use Prim.Native.Nat.{_≤_, _-_}
 use borrow.Author.Needs.{needs}
 use native.Mathlib.Omega.{arith}
-use Rattle.replay_judge.proofs.replay_events.Statement.{statement}
-use Rattle.replay_judge.proofs.replay_events.Tie as tie
-use Rattle.replay_judge.proofs.replay_events.Reads as reads
-use Rattle.replay_judge.proofs.replay_events.Lts as lts
-use Rattle.replay_judge.proofs.replay_event.Reads as replay-event-reads
+use Rattle.replay.proofs.replay_events.Statement.{statement}
+use Rattle.replay.proofs.replay_events.Tie as tie
+use Rattle.replay.proofs.replay_events.Reads as reads
+use Rattle.replay.proofs.replay_events.Lts as lts
+use Rattle.replay.proofs.replay_event.Reads as replay-event-reads
 
 abbrev Inv-loop : tie.InvT-loop
 Inv-loop b table events now₀ i₀ now i = i ≤ events
