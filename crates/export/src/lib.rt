@@ -43,7 +43,7 @@ pub extern "C" fn dovetenon_judge(
         uid: allocation_uid,
         gid: allocation_gid,
     };
-    packed(judge::judge_event(table, operation, target, stack, ids, allocation, allocated))
+    packed(judge::judge(table, operation, target, stack, ids, allocation, allocated))
 }
 
 #[no_mangle]

@@ -433,7 +433,7 @@ pub fn judge_known(
 }
 
 // Any table and any event to a verdict, or a refusal.
-pub fn judge_event(
+pub fn judge(
     t: &[u16],
     operation: u16,
     target: u16,

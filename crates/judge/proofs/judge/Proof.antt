@@ -1,10 +1,10 @@
 use Rattle.judge.proofs.Laws.{table-refused, table-judged}
 use native.Mathlib.Omega.{arith}
 use borrow.Author.Needs.{needs}
-use Rattle.judge.proofs.judge_event.Statement.{statement}
-use Rattle.judge.proofs.judge_event.Tie as tie
-use Rattle.judge.proofs.judge_event.Reads as reads
-use Rattle.judge.proofs.judge_event.Lts as lts
+use Rattle.judge.proofs.judge.Statement.{statement}
+use Rattle.judge.proofs.judge.Tie as tie
+use Rattle.judge.proofs.judge.Reads as reads
+use Rattle.judge.proofs.judge.Lts as lts
 use Rattle.judge.proofs.judge_known.Reads as judge-known-reads
 use Rattle.table.proofs.well_formed.Reads as well-formed-reads
 
@@ -24,5 +24,5 @@ judge-known-requires c κs = search needs
 returns-2 : tie.Need-returns-2
 returns-2 c = search (needs, table-judged)
 
-pub judge-event-spec : {M : Type 1} → statement M
-judge-event-spec = tie.close (tie.spec well-formed-requires returns judge-known-requires returns-2)
+pub judge-spec : {M : Type 1} → statement M
+judge-spec = tie.close (tie.spec well-formed-requires returns judge-known-requires returns-2)
