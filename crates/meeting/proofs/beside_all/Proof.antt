@@ -1,5 +1,5 @@
-use Rattle.meeting.proofs.Chains.{next-within, beside-next, beside-better}
 use borrow.Author.Needs.{needs}
+use Rattle.meeting.proofs.Chains.{next-within, beside-next, beside-better}
 use Rattle.meeting.proofs.beside_all.Statement.{statement}
 use Rattle.meeting.proofs.beside_all.Tie as tie
 

@@ -1,6 +1,6 @@
-use Rattle.meeting.proofs.Chains.{next-within, both-better}
-use native.Mathlib.Omega.{arith}
 use borrow.Author.Needs.{needs}
+use native.Mathlib.Omega.{arith}
+use Rattle.meeting.proofs.Chains.{next-within, both-better}
 use Rattle.meeting.proofs.both_all.Statement.{statement}
 use Rattle.meeting.proofs.both_all.Tie as tie
 

@@ -1,5 +1,5 @@
-use Rattle.meeting.proofs.Cells.{one-is-read, other-is-read, functions-differ, nothing-placed, placed, small-one, small-other, small-both, far-both, far-one, far-other, done-all-all, done-all-fn, done-fn-all, done-same}
 use borrow.Author.Needs.{needs}
+use Rattle.meeting.proofs.Cells.{one-is-read, other-is-read, functions-differ, nothing-placed, placed, small-one, small-other, small-both, far-both, far-one, far-other, done-all-all, done-all-fn, done-fn-all, done-same}
 use Rattle.meeting.proofs.cell.Statement.{statement}
 use Rattle.meeting.proofs.cell.Tie as tie
 

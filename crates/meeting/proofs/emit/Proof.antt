@@ -1,10 +1,10 @@
 use Prim.Native.Nat.{_-_, _<_, _≤_}
-use mathlib.Core.Path.{_≡_}
-use mathlib.Core.List.{_++_}
-use lib.ListN.{length, take, drop}
-use Rattle.meeting.specs.Cells.{stackAt}
-use Rattle.meeting.proofs.Writing.{emit-starts, emit-more, step-tail, emit-done}
 use borrow.Author.Needs.{needs}
+use lib.ListN.{length, take, drop}
+use mathlib.Core.List.{_++_}
+use mathlib.Core.Path.{_≡_}
+use Rattle.meeting.proofs.Writing.{emit-starts, emit-more, step-tail, emit-done}
+use Rattle.meeting.specs.Cells.{stackAt}
 use Rattle.meeting.proofs.emit.Statement.{statement}
 use Rattle.meeting.proofs.emit.Tie as tie
 

@@ -1,8 +1,8 @@
 use Prim.Native.Nat.{_-_, _≤_}
-use mathlib.Core.Path.{_≡_}
-use lib.ListN.{length}
-use Rattle.meeting.proofs.Elements.{ends, ends-again, ends-fails, ends-done}
 use borrow.Author.Needs.{needs}
+use lib.ListN.{length}
+use mathlib.Core.Path.{_≡_}
+use Rattle.meeting.proofs.Elements.{ends, ends-again, ends-fails, ends-done}
 use Rattle.meeting.proofs.ends.Statement.{statement}
 use Rattle.meeting.proofs.ends.Tie as tie
 

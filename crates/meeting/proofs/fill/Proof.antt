@@ -1,9 +1,9 @@
 use Prim.Native.Nat.{_≤_}
-use mathlib.Core.Path.{_≡_}
-use lib.ListN.{length}
-use Rattle.meeting.specs.Cells.{Filled}
-use Rattle.meeting.proofs.Cells.{none-filled, before-cell, all-filled, cell-filled}
 use borrow.Author.Needs.{needs}
+use lib.ListN.{length}
+use mathlib.Core.Path.{_≡_}
+use Rattle.meeting.proofs.Cells.{none-filled, before-cell, all-filled, cell-filled}
+use Rattle.meeting.specs.Cells.{Filled}
 use Rattle.meeting.proofs.fill.Statement.{statement}
 use Rattle.meeting.proofs.fill.Tie as tie
 

@@ -1,9 +1,9 @@
 use Prim.Native.Nat.{_+_, _-_, _≤_}
-use mathlib.Core.Path.{_≡_}
-use lib.ListN.{length, drop}
-use Rattle.meeting.specs.Best.{firstIn}
-use Rattle.meeting.proofs.Chains.{first-found, first-again, first-none}
 use borrow.Author.Needs.{needs}
+use lib.ListN.{length, drop}
+use mathlib.Core.Path.{_≡_}
+use Rattle.meeting.proofs.Chains.{first-found, first-again, first-none}
+use Rattle.meeting.specs.Best.{firstIn}
 use Rattle.meeting.proofs.first_in.Statement.{statement}
 use Rattle.meeting.proofs.first_in.Tie as tie
 

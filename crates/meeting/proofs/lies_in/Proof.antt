@@ -1,5 +1,5 @@
-use Rattle.meeting.proofs.Chains.{lies-listed, lies-unlisted}
 use borrow.Author.Needs.{needs}
+use Rattle.meeting.proofs.Chains.{lies-listed, lies-unlisted}
 use Rattle.meeting.proofs.lies_in.Statement.{statement}
 use Rattle.meeting.proofs.lies_in.Tie as tie
 

@@ -1,5 +1,5 @@
-use Rattle.meeting.proofs.Chains.{at-of}
 use borrow.Author.Needs.{needs}
+use Rattle.meeting.proofs.Chains.{at-of}
 use Rattle.meeting.proofs.load.Statement.{statement}
 use Rattle.meeting.proofs.load.Tie as tie
 

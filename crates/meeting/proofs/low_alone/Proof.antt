@@ -1,5 +1,5 @@
-use Rattle.meeting.proofs.Chains.{low-found, low-missing, other-goes-on, one-goes-on}
 use borrow.Author.Needs.{needs}
+use Rattle.meeting.proofs.Chains.{low-found, low-missing, other-goes-on, one-goes-on}
 use Rattle.meeting.proofs.low_alone.Statement.{statement}
 use Rattle.meeting.proofs.low_alone.Tie as tie
 

@@ -1,9 +1,9 @@
 use Prim.Native.Nat.{_-_, _<_, _≤_}
+use borrow.Author.Needs.{needs}
 use mathlib.Core.Path.{_≡_}
+use Rattle.meeting.proofs.Chains.{lex-none, lex-below, lex-above, lex-same}
 use Rattle.meeting.specs.Best.{lowerOrSame}
 use Rattle.meeting.specs.Cells.{stackAt}
-use Rattle.meeting.proofs.Chains.{lex-none, lex-below, lex-above, lex-same}
-use borrow.Author.Needs.{needs}
 use Rattle.meeting.proofs.lower_or_same.Statement.{statement}
 use Rattle.meeting.proofs.lower_or_same.Tie as tie
 

@@ -1,5 +1,5 @@
-use Rattle.meeting.proofs.Chains.{first-fails, second-fails, third-decides}
 use borrow.Author.Needs.{needs}
+use Rattle.meeting.proofs.Chains.{first-fails, second-fails, third-decides}
 use Rattle.meeting.proofs.may_be_top.Statement.{statement}
 use Rattle.meeting.proofs.may_be_top.Tie as tie
 

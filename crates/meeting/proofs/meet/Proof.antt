@@ -1,6 +1,6 @@
+use borrow.Author.Needs.{needs}
 use mathlib.Core.Path.{refl}
 use Rattle.meeting.proofs.Witness.{zeros-below, frames-fit, frames-counted, frames-written}
-use borrow.Author.Needs.{needs}
 use Rattle.meeting.proofs.meet.Statement.{statement}
 use Rattle.meeting.proofs.meet.Tie as tie
 

@@ -1,5 +1,5 @@
-use Rattle.meeting.proofs.Chains.{pick-1, pick-2, pick-3, pick-4, pick-5, pick-6, pick-7, pick-8}
 use borrow.Author.Needs.{needs}
+use Rattle.meeting.proofs.Chains.{pick-1, pick-2, pick-3, pick-4, pick-5, pick-6, pick-7, pick-8}
 use Rattle.meeting.proofs.pick.Statement.{statement}
 use Rattle.meeting.proofs.pick.Tie as tie
 

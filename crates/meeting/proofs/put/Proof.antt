@@ -1,5 +1,5 @@
-use Rattle.meeting.proofs.Chains.{put-one, put-none, put-more}
 use borrow.Author.Needs.{needs}
+use Rattle.meeting.proofs.Chains.{put-one, put-none, put-more}
 use Rattle.meeting.proofs.put.Statement.{statement}
 use Rattle.meeting.proofs.put.Tie as tie
 

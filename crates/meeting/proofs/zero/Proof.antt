@@ -1,9 +1,9 @@
 use Prim.Native.Nat.{_-_, _≤_}
-use mathlib.Core.Path.{_≡_}
-use mathlib.Core.List.{_++_}
-use lib.ListN.{length, take, drop, replicate}
-use Rattle.meeting.proofs.Writing.{zero-more, zero-done}
 use borrow.Author.Needs.{needs}
+use lib.ListN.{length, take, drop, replicate}
+use mathlib.Core.List.{_++_}
+use mathlib.Core.Path.{_≡_}
+use Rattle.meeting.proofs.Writing.{zero-more, zero-done}
 use Rattle.meeting.proofs.zero.Statement.{statement}
 use Rattle.meeting.proofs.zero.Tie as tie
 

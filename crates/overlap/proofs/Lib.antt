@@ -1,0 +1,4 @@
+pub mod Clash
+mod Words
+mod Pairs
+pub mod Reporting
