@@ -161,3 +161,21 @@ module _ (D : List ℕ) (d : ℕ) (P Q : List Element) where
   pub best-least : (w : List ℕ) → Meet (inDomain D d) P Q w → Some (bestStack D d P Q) × NotAfter (bestStack D d P Q) w
   unfolding bestStack
   best-least w c = bestFrom-least D d (firstIn D d) (first-lowest D d) P Q w c
+
+-- ---- two stacks neither of which comes after the other are one
+above-anti : (u v : List ℕ) → NotAbove u v → NotAbove v u → u ≡ v
+unfolding NotAbove
+above-anti [] [] h k = refl
+above-anti [] (y ∷ v) h k = absurd k
+above-anti (x ∷ u) [] h k = absurd h
+above-anti (x ∷ u) (y ∷ v) (inl h) (inl k) = absurd (omega arith)
+above-anti (x ∷ u) (y ∷ v) (inl h) (inr k) = absurd (let e = k .0 in omega arith)
+above-anti (x ∷ u) (y ∷ v) (inr h) (inl k) = absurd (let e = h .0 in omega arith)
+above-anti (x ∷ u) (y ∷ v) (inr h) (inr k) = let e = h .0 in let t = above-anti u v (h .1) (k .1) in cc
+
+tail-of : (x y : ℕ) (u v : List ℕ) → x ∷ u ≡ y ∷ v → u ≡ v
+tail-of x y u v e = cc
+
+pub after-anti : (u v : List ℕ) → NotAfter u v → NotAfter v u → u ≡ v
+unfolding NotAfter
+after-anti u v h k = tail-of (length u) (length v) u v (above-anti (length u ∷ u) (length v ∷ v) h k)

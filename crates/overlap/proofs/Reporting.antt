@@ -40,7 +40,7 @@ some-of : (S : List ℕ) (r : ℕ) → r ≡ length S → (r ≡ 0 → ⊥) → 
 some-of [] r e n = n e
 some-of (x ∷ S) r e n = tt
 
-take-left : (S old new : List ℕ) (r : ℕ) → r ≡ length S → new ≡ witnessLeft S old → take r new ≡ S
+pub take-left : (S old new : List ℕ) (r : ℕ) → r ≡ length S → new ≡ witnessLeft S old → take r new ≡ S
 unfolding witnessLeft padded
 take-left S old new r e f = rw (f, append-assoc) (take-at S _ r (sym e))
 
