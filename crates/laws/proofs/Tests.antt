@@ -26,6 +26,9 @@ pub both-right : (a b : Bool) → (a && b) ≡ true → b ≡ true
 both-right true b p = p
 both-right false b p = cc
 
+pub both-of : (a b : Bool) → (a && b) ≡ true → (a ≡ true) × (b ≡ true)
+both-of a b h = (both-left a b h, both-right a b h)
+
 pub both-false : (a b : Bool) → b ≡ false → (a && b) ≡ false
 both-false true b p = p
 both-false false b p = refl

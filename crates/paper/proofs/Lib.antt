@@ -2,4 +2,3 @@ pub mod Bits
 pub mod Computing
 pub mod Example
 pub mod Refusals
-pub mod Trials

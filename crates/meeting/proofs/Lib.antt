@@ -1,0 +1,7 @@
+pub mod Best
+pub mod Order
+mod Elements
+mod Chains
+mod Cells
+mod Writing
+mod Witness

@@ -1,0 +1,28 @@
+-- The cells: cell c = i * 17 + j is of the patterns from places i and j on. It holds how many frames its best stack has (L),
+-- the base frame (H) and the cell of the rest of the stack (N).
+use Prim.Native.Nat.{ℕ, zero, suc, _<_, _≤_, _/_, _%_}
+use mathlib.Core.Path.{_≡_}
+use mathlib.Core.List.{List, [], _∷_, map}
+use lib.ListN.{length, getD, drop}
+use Rattle.paper.specs.Policy.{Element}
+use Rattle.paper.specs.Table.{elementIn}
+use Rattle.meeting.specs.Best.{bestFrom}
+
+unfoldable pub elementsOf : List ℕ → List Element
+elementsOf ws = map elementIn ws
+
+-- n frames from cell c on
+unfoldable pub stackAt : List ℕ → List ℕ → ℕ → ℕ → List ℕ
+stackAt H N c zero = []
+stackAt H N c (suc n) = getD H c 0 ∷ stackAt H N (getD N c 0) n
+
+-- n frames: f, and then from cell c on
+unfoldable pub stackOf : List ℕ → List ℕ → ℕ → ℕ → ℕ → List ℕ
+stackOf H N zero f c = []
+stackOf H N (suc n) f c = f ∷ stackAt H N c n
+
+-- the cells from k on are right
+pub record Filled (functions : List ℕ) (d low : ℕ) (P Q L H N : List ℕ) (k : ℕ) : Type 0 where
+  pub right : (c : ℕ) → k ≤ c → c < 289 → stackAt H N c (getD L c 0) ≡ bestFrom functions d low (elementsOf (drop (c / 17) P)) (elementsOf (drop (c % 17) Q))
+  pub ahead : (c : ℕ) → k ≤ c → c < 289 → c ≤ getD N c 0
+  pub inside : (c : ℕ) → getD N c 0 < 289

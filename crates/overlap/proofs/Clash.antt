@@ -1,0 +1,162 @@
+-- Two entries match a moment exactly where `clashStack` finds a stack, and none comes before it.
+use Prim.Native.Nat.{ℕ, zero, suc, _+_, _-_, _<_, _≤_}
+use native.Mathlib.Omega.{arith}
+use native.Mathlib.Numerals.{sub-one}
+use mathlib.Core.Path.{_≡_, refl, sym, ap, subst, _∙_}
+use mathlib.Core.Bool.{Bool, true, false, cond, not, _&&_, _||_, false≢true}
+use mathlib.Core.List.{List, [], _∷_}
+use lib.Dec.{eqb, ltb, eqb·suc-zero}
+use lib.ListN.{length, getD}
+use borrow.Author.Tests.{eqb-true, eq-eqb}
+use Rattle.paper.specs.Scalars.{Sort, anyone, variable, root, user}
+use Rattle.paper.specs.Policy.{Element, Entry, Policy}
+use Rattle.paper.specs.Match.{Moment, top, topLiesIn, sortFits, matches, entryMatches}
+use Rattle.paper.specs.Overlap.{isUser, witnessUid}
+use Rattle.meeting.specs.Best.{topPasses, Meet, inDomain, bestStack, NotAfter}
+use Rattle.meeting.proofs.Best.{Some}
+use Rattle.meeting.proofs.Order.{best-short, best-sound, best-least}
+use Rattle.laws.proofs.Tests.{both-true, both-left, both-right}
+use Rattle.overlap.specs.Clash.{isRoot, apart, clashStack}
+
+-- ---- the top frame
+top-next : (x y : ℕ) (s : List ℕ) → top (x ∷ y ∷ s) ≡ top (y ∷ s)
+top-next x y s = rw (sub-one (suc (suc (length s))), sub-one (suc (length s)))
+
+passes-top : (test : ℕ → Bool) (x : ℕ) (s : List ℕ) → topPasses test (x ∷ s) ≡ test (top (x ∷ s))
+unfolding topPasses
+passes-top test x [] = refl
+passes-top test x (y ∷ s) = passes-top test y s ∙ ap test (sym (top-next x y s))
+
+lies-top : (p : Policy) (d x : ℕ) (s : List ℕ) → topLiesIn p d (x ∷ s) ≡ inDomain (p .functions) d (top (x ∷ s))
+unfolding topLiesIn inDomain
+lies-top p d x s = rw (eqb·suc-zero (length s))
+
+pub top-lies : (p : Policy) (d : ℕ) (s : List ℕ) → topLiesIn p d s ≡ topPasses (inDomain (p .functions) d) s
+unfolding topLiesIn topPasses
+top-lies p d [] = refl
+top-lies p d (x ∷ s) = lies-top p d x s ∙ sym (passes-top (inDomain (p .functions) d) x s)
+
+-- a function lies in one domain only
+one-domain : (p : Policy) (a b : ℕ) (s : List ℕ) → topLiesIn p a s ≡ true → topLiesIn p b s ≡ true → a ≡ b
+unfolding topLiesIn
+one-domain p a b s h k =
+    let x : eqb (getD (p .functions) (top s) 0) a ≡ true = search both-right in
+    let y : eqb (getD (p .functions) (top s) 0) b ≡ true = search both-right in
+    sym (eqb-true _ a x) ∙ eqb-true _ b y
+
+-- ---- uids
+fit-together : (s t : Sort) (id : ℕ) → sortFits s id ≡ true → sortFits t id ≡ true → apart s t ≡ false
+unfolding sortFits apart isUser isRoot
+fit-together anyone t id h k = refl
+fit-together variable t id h k = refl
+fit-together root anyone id h k = refl
+fit-together root variable id h k = refl
+fit-together root root id h k = refl
+fit-together root user id h k = absurd (false≢true (rw h at k))
+fit-together user anyone id h k = refl
+fit-together user variable id h k = refl
+fit-together user root id h k = absurd (false≢true (rw k at h))
+fit-together user user id h k = refl
+
+-- "1 if either entry says `user`, else 0"
+abbrev uidFor : Sort → Sort → ℕ
+uidFor s t = cond (isUser s || isUser t) 1 0
+
+one-fits : (s t : Sort) → apart s t ≡ false → sortFits s (uidFor s t) ≡ true
+unfolding sortFits apart isUser
+one-fits anyone t h = refl
+one-fits variable t h = refl
+one-fits root t h = rw h
+one-fits user t h = refl
+
+other-fits : (s t : Sort) → apart s t ≡ false → sortFits t (uidFor s t) ≡ true
+unfolding sortFits apart isUser isRoot
+other-fits s anyone h = refl
+other-fits s variable h = refl
+other-fits anyone root h = refl
+other-fits variable root h = refl
+other-fits root root h = refl
+other-fits user root h = absurd (false≢true (sym h))
+other-fits anyone user h = refl
+other-fits variable user h = refl
+other-fits root user h = refl
+other-fits user user h = refl
+
+-- ---- an entry that matches a moment
+pub record Matched (p : Policy) (e : Entry) (m : Moment) : Type 0 where
+  pub lies : topLiesIn p (e .subject) (m .stack) ≡ true
+  pub takes : matches (e .context .pattern) (m .stack) ≡ true
+  pub uid : sortFits (e .context .uid) (m .uid) ≡ true
+  pub gid : sortFits (e .context .gid) (m .gid) ≡ true
+
+matched : (p : Policy) (e : Entry) (m : Moment) → entryMatches p e m ≡ true → Matched p e m
+unfolding entryMatches
+matched p e m h = record {
+  lies = search both-left depth 5;
+  takes = search (both-left, both-right) depth 5;
+  uid = search (both-left, both-right) depth 5;
+  gid = search both-right depth 5;
+}
+
+is-matched : (p : Policy) (e : Entry) (m : Moment) → Matched p e m → entryMatches p e m ≡ true
+unfolding entryMatches
+is-matched p e m f = both-true _ _ (both-true _ _ (both-true _ _ (f .lies) (f .takes)) (f .uid)) (f .gid)
+
+module _ (p : Policy) (a b : Entry) where
+  -- the stack of these two entries
+  abbrev stack : List ℕ
+  stack = clashStack (p .functions) a b
+
+  -- ---- sound
+  abbrev Both : List ℕ → Type 0
+  Both s =
+      let m : Moment = record { stack = s; uid = witnessUid a b; gid = 0 } in
+      (entryMatches p a m ≡ true) × (entryMatches p b m ≡ true)
+
+  module _ (gidA : sortFits (a .context .gid) 0 ≡ true) (gidB : sortFits (b .context .gid) 0 ≡ true) where
+    both-at : (s : List ℕ) → a .subject ≡ b .subject → apart (a .context .uid) (b .context .uid) ≡ false →
+        Meet (inDomain (p .functions) (a .subject)) (a .context .pattern) (b .context .pattern) s → Both s
+    unfolding witnessUid
+    both-at s e u c =
+        let lies : topLiesIn p (a .subject) s ≡ true = top-lies p (a .subject) s ∙ c .top in (
+          is-matched p a _ (record { lies = lies; takes = c .one; uid = one-fits (a .context .uid) (b .context .uid) u; gid = gidA }),
+          is-matched p b _ (record { lies = rw (← e) lies; takes = c .other; uid = other-fits (a .context .uid) (b .context .uid) u; gid = gidB }),
+        )
+
+    pub clash-sound : Some stack → Both stack
+    unfolding clashStack
+    clash-sound = same (eqb (a .subject) (b .subject)) refl
+      where
+        best : List ℕ
+        best = bestStack (p .functions) (a .subject) (a .context .pattern) (b .context .pattern)
+
+        fit : a .subject ≡ b .subject → (t : Bool) → apart (a .context .uid) (b .context .uid) ≡ t → Some (cond t [] best) → Both (cond t [] best)
+        fit e true u s = absurd s
+        fit e false u s = both-at best e u (best-sound (p .functions) (a .subject) (a .context .pattern) (b .context .pattern) s)
+
+        same : (t : Bool) → eqb (a .subject) (b .subject) ≡ t → Some (cond t (cond (apart (a .context .uid) (b .context .uid)) [] best) []) → Both (cond t (cond (apart (a .context .uid) (b .context .uid)) [] best) [])
+        same true e s = fit (eqb-true _ _ e) (apart (a .context .uid) (b .context .uid)) refl s
+        same false e s = absurd s
+
+  -- ---- complete, and least
+  pub clash-least : (m : Moment) → entryMatches p a m ≡ true → entryMatches p b m ≡ true → Some stack × NotAfter stack (m .stack)
+  unfolding clashStack
+  clash-least m h k =
+      let f = matched p a m h in
+      let g = matched p b m k in
+      rw (
+        eq-eqb (a .subject) (b .subject) (one-domain p (a .subject) (b .subject) (m .stack) (f .lies) (g .lies)),
+        fit-together (a .context .uid) (b .context .uid) (m .uid) (f .uid) (g .uid),
+      )
+      (best-least (p .functions) (a .subject) (a .context .pattern) (b .context .pattern) (m .stack)
+      (record { one = f .takes; other = g .takes; top = sym (top-lies p (a .subject) (m .stack)) ∙ f .lies }))
+
+  -- ---- short
+  pub clash-short : length stack ≤ length (a .context .pattern) + length (b .context .pattern)
+  unfolding clashStack
+  clash-short = go (eqb (a .subject) (b .subject)) (apart (a .context .uid) (b .context .uid))
+    where
+      go : (t u : Bool) → length (cond t (cond u [] (bestStack (p .functions) (a .subject) (a .context .pattern) (b .context .pattern))) []) ≤ length (a .context .pattern) + length (b .context .pattern)
+      go true true = omega arith
+      go true false = best-short (p .functions) (a .subject) (a .context .pattern) (b .context .pattern)
+      go false u = omega arith

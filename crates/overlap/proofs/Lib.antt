@@ -1,0 +1,7 @@
+pub mod Clash
+mod Words
+mod Pairs
+pub mod Reporting
+pub mod Agree
+mod Two
+pub mod Trials

@@ -1,0 +1,28 @@
+use borrow.Author.Needs.{needs}
+use Rattle.laws.proofs.Chains.{told-yes}
+use Rattle.overlap.proofs.Reporting.{unformed, no-room, reported, reported-least}
+use Rattle.overlap.proofs.overlap.Statement.{statement}
+use Rattle.overlap.proofs.overlap.Tie as tie
+
+well-formed-requires : tie.Need-well-formed-requires
+well-formed-requires c κs = search needs
+
+returns : tie.Need-returns
+returns c = search (needs, unformed)
+
+returns-2 : tie.Need-returns-2
+returns-2 c = search (needs, no-room)
+
+first-clash-requires : tie.Need-first-clash-requires
+first-clash-requires c κs = search (needs, told-yes)
+
+same-length : tie.Need-same-length
+same-length c = search needs
+
+returns-3 : tie.Need-returns-3
+returns-3 c = search (needs, reported, reported-least)
+
+pub overlap-spec : {M : Type 1} → statement M
+overlap-spec =
+    tie.close
+    (tie.spec well-formed-requires returns returns-2 first-clash-requires same-length returns-3)
