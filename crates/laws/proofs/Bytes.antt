@@ -2,7 +2,7 @@
 use mathlib.Core.Path.{_≡_, refl, sym, _∙_}
 use mathlib.Core.Bool.{Bool, true, false, cond, not, _&&_, _||_}
 use mathlib.Core.List.{List, [], _∷_}
-use Prim.Native.Nat.{ℕ, _+_, _<_, _≤_}
+use Prim.Native.Nat.{ℕ, suc, _+_, _<_, _≤_}
 use native.Mathlib.Omega.{arith}
 use lib.Dec.{eqb}
 use lib.ListN.{length, getD, drop, drop-of-length-le}
@@ -63,7 +63,7 @@ module _ (k s : List ℕ) (i : ℕ) (inv : startsWith (drop i k) (drop i s) ≡ 
 -- ---- the way to a separator
 
 module _ (c : ℕ) (s : List ℕ) (at i : ℕ) (inv : i + before c (drop i s) ≡ at + before c (drop at s)) where
-  before-more : i < length s → (getD s i 0 ≡ c → ⊥) → before c (drop i s) ≡ before c (drop (i + 1) s) + 1
+  before-more : i < length s → (getD s i 0 ≡ c → ⊥) → before c (drop i s) ≡ suc (before c (drop (i + 1) s))
   unfolding before
   before-more h e = rw (drop-more s i h, ne-eqb _ _ e)
 

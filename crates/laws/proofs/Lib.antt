@@ -7,3 +7,4 @@ pub mod Counting
 pub mod Blocks
 pub mod Bits
 pub mod Bytes
+pub mod Pieces

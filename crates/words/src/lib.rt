@@ -55,7 +55,7 @@ pub fn find(s: &[u8], at: usize, c: u8) -> usize
     i
 }
 
-fn within(low: u8, high: u8, b: u8) -> bool
+pub fn within(low: u8, high: u8, b: u8) -> bool
     ensures { λ r. ⌜ r ≡ within low high b ⌝ }
 {
     if b < low {
