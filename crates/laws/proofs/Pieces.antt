@@ -80,3 +80,14 @@ module _ (c : ℕ) (t : List ℕ) (at e : ℕ) (f : e ≡ at + before c (drop at
 
   pub cut-last : at ≤ length t → length t ≤ e → cut c (drop at t) ≡ take (e - at) (drop at t) ∷ []
   cut-last w h = cut-end c (drop at t) (omega (arith, length-drop at t)) ∙ ap (λ (y : List ℕ). y ∷ []) (sym (piece-last h))
+
+-- there is always a piece
+pub cut-some : (c : ℕ) (xs : List ℕ) → (y : List ℕ) × (ys : List (List ℕ)) × (cut c xs ≡ y ∷ ys)
+unfolding cut onPiece
+cut-some c [] = ([], [], refl)
+cut-some c (b ∷ bs) = go (eqb b c) (cut c bs)
+  where
+    go : (t : Bool) (ps : List (List ℕ)) → (y : List ℕ) × (ys : List (List ℕ)) × (cond t ([] ∷ ps) (onPiece b ps) ≡ y ∷ ys)
+    go true ps = ([], ps, refl)
+    go false [] = (b ∷ [], [], refl)
+    go false (q ∷ qs) = (b ∷ q, qs, refl)
