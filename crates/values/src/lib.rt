@@ -79,7 +79,7 @@ fn all_are(scalar: Scalar, s: &[u8]) -> bool
     }
 }
 
-fn inside_fault(scalar: Scalar, s: &[u8]) -> usize
+fn inside_fault(scalar: Scalar, s: &[u8]) -> u16
     ensures { λ r. ⌜ r ≡ insideFault (scalarOf scalar) (now (s .entry)) ⌝ }
 {
     if !spaced(s) {
@@ -94,7 +94,7 @@ fn inside_fault(scalar: Scalar, s: &[u8]) -> usize
     5
 }
 
-pub fn list_fault(scalar: Scalar, v: &[u8]) -> usize
+pub fn list_fault(scalar: Scalar, v: &[u8]) -> u16
     ensures { λ r. ⌜ r ≡ listFault (scalarOf scalar) (now (v .entry)) ⌝ }
 {
     if !bracketed(v) {
@@ -104,7 +104,7 @@ pub fn list_fault(scalar: Scalar, v: &[u8]) -> usize
     inside_fault(scalar, &v[1..e])
 }
 
-fn scalar_fault(scalar: Scalar, v: &[u8]) -> usize
+fn scalar_fault(scalar: Scalar, v: &[u8]) -> u16
     ensures { λ r. ⌜ r ≡ valueFault (valueOf (Value.One scalar)) (now (v .entry)) ⌝ }
 {
     if scalars::is_scalar(scalar, v) {
@@ -113,7 +113,7 @@ fn scalar_fault(scalar: Scalar, v: &[u8]) -> usize
     5
 }
 
-fn some_fault(scalar: Scalar, v: &[u8]) -> usize
+fn some_fault(scalar: Scalar, v: &[u8]) -> u16
     ensures { λ r. ⌜ r ≡ valueFault (valueOf (Value.SomeOf scalar)) (now (v .entry)) ⌝ }
 {
     if words::same(b"[]", v) {
@@ -122,7 +122,7 @@ fn some_fault(scalar: Scalar, v: &[u8]) -> usize
     list_fault(scalar, v)
 }
 
-fn list_or_all_fault(scalar: Scalar, v: &[u8]) -> usize
+fn list_or_all_fault(scalar: Scalar, v: &[u8]) -> u16
     ensures { λ r. ⌜ r ≡ valueFault (valueOf (Value.ListOrAll scalar)) (now (v .entry)) ⌝ }
 {
     if words::same(b"all", v) {
@@ -131,7 +131,7 @@ fn list_or_all_fault(scalar: Scalar, v: &[u8]) -> usize
     list_fault(scalar, v)
 }
 
-fn none_fault(v: &[u8]) -> usize
+fn none_fault(v: &[u8]) -> u16
     ensures { λ r. ⌜ r ≡ valueFault (valueOf Value.NoneOrItems) (now (v .entry)) ⌝ }
 {
     if words::same(b"[]", v) {
@@ -140,7 +140,7 @@ fn none_fault(v: &[u8]) -> usize
     4
 }
 
-fn all_fault(v: &[u8]) -> usize
+fn all_fault(v: &[u8]) -> u16
     ensures { λ r. ⌜ r ≡ valueFault (valueOf Value.AllOrKeys) (now (v .entry)) ⌝ }
 {
     if words::same(b"all", v) {
@@ -149,7 +149,7 @@ fn all_fault(v: &[u8]) -> usize
     4
 }
 
-fn all_none_fault(v: &[u8]) -> usize
+fn all_none_fault(v: &[u8]) -> u16
     ensures { λ r. ⌜ r ≡ valueFault (valueOf Value.AllNoneOrItems) (now (v .entry)) ⌝ }
 {
     if words::same(b"all", v) {
@@ -159,7 +159,7 @@ fn all_none_fault(v: &[u8]) -> usize
 }
 
 // 4, 9 or 5, or 0 where the value is right.
-pub fn value_fault(value: Value, v: &[u8]) -> usize
+pub fn value_fault(value: Value, v: &[u8]) -> u16
     ensures { λ r. ⌜ r ≡ valueFault (valueOf value) (now (v .entry)) ⌝ }
 {
     match value {
