@@ -6,3 +6,5 @@ pub mod Stretches
 pub mod Counting
 pub mod Blocks
 pub mod Bits
+pub mod Bytes
+pub mod Pieces

@@ -1,0 +1,113 @@
+-- The fault of a value, and of a line, is the first in the order 4, 9, 5.
+use mathlib.Core.Path.{_≡_, refl, sym, ap, _∙_}
+use mathlib.Core.List.{List, [], _∷_}
+use mathlib.Core.Bool.{Bool, true, false, cond, not, _&&_, _||_}
+use Prim.Native.Nat.{ℕ, zero, suc, _+_}
+use native.Mathlib.Omega.{arith}
+use lib.Dec.{eqb}
+use lib.ListN.{length, drop}
+use borrow.Author.Tests.{eqb-true}
+use Rattle.paper.specs.Common.{bytes, isEmpty, allOf, same, isOne, anyOf}
+use Rattle.paper.specs.Text.{Line, skipped}
+use Rattle.paper.specs.Scalars.{Scalar, isScalar}
+use Rattle.paper.specs.Lists.{bracketed, inside, spaced, elements, elementsIn, listFault}
+use Rattle.paper.specs.Listing.{Value, keys, noneOrItems, allOrKeys, allNoneOrItems, scalar, list, someList, listOrAll, bareIsNone, rowAt, keyAt, atBlock, valueFault}
+use Rattle.paper.specs.Page.{State, Step, pass, stop, needsBlock, placesFor, placeOf, oneSpaceAndValue, fieldStep, bareFault, afterKey, placeStep, unlessEmpty, lineStep}
+use Rattle.laws.proofs.Tests.{same-equal}
+use Rattle.first.specs.Order.{inOrder, isList, valueFour, valueNine, valueFive, placeIn, restOf, lineFour, lineNine, lineFive}
+
+-- ---- of a value
+
+-- `[]` is a list, and `all` has no elements
+none-list : (v : List ℕ) → bytes "[]" ≡ v → (bracketed v && spaced 0 (inside v)) ≡ false → _≡_ {A = ℕ} 0 1
+unfolding bracketed spaced
+none-list v e f = let g : true ≡ false = rw (← e) at f in cc
+
+all-list : (s : Scalar) (v : List ℕ) → bytes "all" ≡ v → allOf (isScalar s) (elements v) ≡ false → _≡_ {A = ℕ} 0 1
+unfolding elements bracketed allOf
+all-list s v e f = let g : true ≡ false = rw (← e) at f in cc
+
+pub value-order : (k : Value) (v : List ℕ) → valueFault k v ≡ inOrder (valueFour k v) (valueNine k v) (valueFive k v)
+unfolding valueFault valueFour valueNine valueFive inOrder isList listFault
+value-order keys v = refl
+value-order noneOrItems v = go (same (bytes "[]") v)
+  where
+    go : (b : Bool) → cond {A = ℕ} b 0 4 ≡ cond (not b) 4 0
+    go true = refl
+    go false = refl
+value-order allOrKeys v = go (same (bytes "all") v)
+  where
+    go : (b : Bool) → cond {A = ℕ} b 0 4 ≡ cond (not b) 4 0
+    go true = refl
+    go false = refl
+value-order allNoneOrItems v = go (isOne ("all" ∷ "[]" ∷ []) v)
+  where
+    go : (b : Bool) → cond {A = ℕ} b 0 4 ≡ cond (not b) 4 0
+    go true = refl
+    go false = refl
+value-order (scalar s) v = go (isScalar s v)
+  where
+    go : (b : Bool) → cond {A = ℕ} b 0 5 ≡ cond (not b) 5 0
+    go true = refl
+    go false = refl
+value-order (list s) v = go (bracketed v && spaced 0 (inside v)) (allOf (isScalar s) (elements v))
+  where
+    go : (a b : Bool) → cond {A = ℕ} a (cond b 0 5) 4 ≡ cond (not a) 4 (cond (not b) 5 0)
+    go true true = refl
+    go true false = refl
+    go false b = refl
+value-order (someList s) v = go (same (bytes "[]") v) refl (bracketed v && spaced 0 (inside v)) refl (allOf (isScalar s) (elements v))
+  where
+    -- `[]` is a list
+    list-none : same (bytes "[]") v ≡ true → (bracketed v && spaced 0 (inside v)) ≡ false → _≡_ {A = ℕ} 0 1
+    list-none e f = none-list v (same-equal (bytes "[]") v e) f
+
+    go : (n : Bool) → same (bytes "[]") v ≡ n → (a : Bool) → (bracketed v && spaced 0 (inside v)) ≡ a → (b : Bool)
+        → cond {A = ℕ} n 9 (cond a (cond b 0 5) 4) ≡ cond (not a) 4 (cond n 9 (cond (not b) 5 0))
+    go true e true f b = refl
+    go true e false f b = absurd (let z : _≡_ {A = ℕ} 0 1 = list-none e f in omega arith)
+    go false e true f true = refl
+    go false e true f false = refl
+    go false e false f b = refl
+value-order (listOrAll s) v = go (same (bytes "all") v) refl (bracketed v && spaced 0 (inside v)) (allOf (isScalar s) (elements v)) refl
+  where
+    go : (n : Bool) → same (bytes "all") v ≡ n → (a b : Bool) → allOf (isScalar s) (elements v) ≡ b
+        → cond {A = ℕ} n 0 (cond a (cond b 0 5) 4) ≡ cond (not n && not a) 4 (cond (not b) 5 0)
+    go true e a true f = refl
+    go true e a false f = absurd (let z : _≡_ {A = ℕ} 0 1 = all-list s v (same-equal (bytes "all") v e) f in omega arith)
+    go false e true true f = refl
+    go false e true false f = refl
+    go false e false b f = refl
+
+-- ---- of a line
+
+by-tests : (n p : ℕ) (v : List ℕ) (ended zeroth bare spacious nine : Bool) (f : ℕ) (four nine′ five : Bool)
+    → (bare ≡ true → v ≡ []) → f ≡ inOrder four nine′ five
+    → cond ended (cond zeroth (stop 4 n) (cond bare (fieldStep n p true [] (cond nine 9 0)) (cond spacious (fieldStep n p false v f) (stop 4 n)))) (stop 4 n)
+    ≡ fieldStep n p bare v (inOrder (not ended || zeroth || (not bare && (not spacious || four))) (cond bare nine nine′) (not bare && five))
+unfolding fieldStep inOrder
+by-tests n p v false zeroth bare spacious nine f four nine′ five w e = refl
+by-tests n p v true true bare spacious nine f four nine′ five w e = refl
+by-tests n p v true false true spacious true f four nine′ five w e = refl
+by-tests n p v true false true spacious false f four nine′ five w e = rw (w refl)
+by-tests n p v true false false true nine f four nine′ five w e = ap (fieldStep n p false v) e
+by-tests n p v true false false false nine f four nine′ five w e = refl
+
+none-behind : (s : List ℕ) → isEmpty s ≡ true → drop 1 s ≡ []
+none-behind [] e = refl
+none-behind (b ∷ bs) e = absurd (let z : suc (length bs) ≡ 0 = eqb-true (suc (length bs)) 0 e in omega arith)
+
+-- a line that counts, and leaves no field above it empty, brings the first of 4, 9 and 5 that holds of it, or is a field
+pub line-order : (st : State) (n : ℕ) (l : Line) → skipped (l .text) ≡ false → (needsBlock st && not (atBlock (st .place) (l .text))) ≡ false
+    → lineStep st n l ≡ fieldStep n (placeIn st l) (isEmpty (restOf st l)) (drop 1 (restOf st l)) (inOrder (lineFour st l) (lineNine st l) (lineFive st l))
+unfolding lineStep unlessEmpty placeStep afterKey bareFault lineFour lineNine lineFive
+line-order st n l s e =
+    rw (s, e)
+    (by-tests n (placeIn st l) (drop 1 (restOf st l)) (l .ended) (eqb (placeIn st l) 0) (isEmpty (restOf st l)) (oneSpaceAndValue (restOf st l))
+    (isEmpty (rowAt (placeIn st l) .block) && not (bareIsNone (rowAt (placeIn st l) .value)))
+    (valueFault (rowAt (placeIn st l) .value) (drop 1 (restOf st l)))
+    (valueFour (rowAt (placeIn st l) .value) (drop 1 (restOf st l)))
+    (valueNine (rowAt (placeIn st l) .value) (drop 1 (restOf st l)))
+    (valueFive (rowAt (placeIn st l) .value) (drop 1 (restOf st l)))
+    (none-behind (restOf st l))
+    (value-order (rowAt (placeIn st l) .value) (drop 1 (restOf st l))))
