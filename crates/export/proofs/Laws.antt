@@ -1,9 +1,13 @@
 -- What the exported functions need, as plain laws.
 use mathlib.Core.Path.{_≡_, ap, _∙_}
-use Prim.Native.Nat.{ℕ, _+_}
+use Prim.Native.Nat.{ℕ, _+_, _*_, _%_}
+use mathlib.Core.List.{List}
 use Rattle.paper.specs.declared.Verdict.{Verdict}
 use Rattle.paper.specs.declared.Verdict.the-variants.{Inside, Granted, Violation, Unjudged}
-use Rattle.export.specs.Packed.{verdictPacked}
+use Rattle.paper.specs.declared.Report.{Report}
+use Rattle.paper.specs.declared.Report.the-variants.{Clear, Clash, Unreported}
+use Rattle.paper.specs.Promises.{Reported}
+use Rattle.export.specs.Packed.{verdictPacked, reportPacked, ReportedAs}
 
 module _ (v : Verdict) where
   pub packs-inside : v ≡ Inside → 0 ≡ verdictPacked v
@@ -25,3 +29,20 @@ module _ (v : Verdict) where
 -- the number of an answer that is known
 pub packs-answer : (v answer : Verdict) (r : ℕ) → r ≡ verdictPacked v → v ≡ answer → r ≡ verdictPacked answer
 packs-answer v answer r p e = p ∙ ap verdictPacked e
+
+module _ (r : Report) where
+  pub packs-clear : r ≡ Clear → 0 ≡ reportPacked r
+  unfolding reportPacked
+  packs-clear e = rw e
+
+  pub packs-clash :
+      (lower higher depth uid gid p : ℕ) → r ≡ Clash lower higher depth uid gid → p ≡ lower * 65536 + higher * 16777216 + depth * 4294967296 + uid % 2 * 1099511627776 → p ≡ reportPacked r
+  unfolding reportPacked
+  packs-clash lower higher depth uid gid p e h = rw e h
+
+  pub packs-unreported : (n : ℕ) → r ≡ Unreported n → n ≡ reportPacked r
+  unfolding reportPacked
+  packs-unreported n e = rw e
+
+pub reported-as : (table old new : List ℕ) (r : Report) (p : ℕ) → Reported table old new r → p ≡ reportPacked r → ReportedAs table old new p
+reported-as table old new r p h e = record { report = r; reported = h; packs = e }

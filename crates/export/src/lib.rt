@@ -1,10 +1,12 @@
 // The proved functions for C and Rust: include/dovetenon.h says what each answers.
 use judge::Ids;
+use paper::Report;
 use paper::Verdict;
 ghost use mathlib.Core.Path.{_≡_};
+ghost use Prim.Native.Nat.{_+_, _*_, _%_};
 ghost use Rattle.paper.specs.Table.{wellFormed, policyIn};
 ghost use Rattle.paper.specs.Promises.{judgeEvent, judgeAnswer};
-ghost use Rattle.export.specs.Packed.{verdictPacked};
+ghost use Rattle.export.specs.Packed.{verdictPacked, reportPacked, ReportedAs};
 
 #[no_mangle]
 pub extern "C" fn dovetenon_well_formed(table: &[u16]) -> bool
@@ -66,4 +68,34 @@ pub extern "C" fn dovetenon_judge_known(
         gid: allocation_gid,
     };
     packed(judge::judge_known(table, operation, target, stack, ids, allocation, allocated))
+}
+
+fn packed_report(report: Report) -> u64
+    ensures { λ r. ⌜ r ≡ reportPacked report ⌝ }
+{
+    match report {
+        Report::Clear => 0,
+        Report::Clash {
+            lower,
+            higher,
+            depth,
+            uid,
+            gid: _,
+        } => packed_clash(lower, higher, depth, uid),
+        Report::Unreported { number } => number as u64,
+    }
+}
+
+fn packed_clash(lower: u16, higher: u16, depth: u16, uid: u32) -> u64
+    ensures { λ r. ⌜ r ≡ lower * 65536 + higher * 16777216 + depth * 4294967296 + uid % 2 * 1099511627776 ⌝ }
+{
+    let pair = (lower as u64) * 65536 + (higher as u64) * 16777216;
+    pair + (depth as u64) * 4294967296 + ((uid % 2) as u64) * 1099511627776
+}
+
+#[no_mangle]
+pub extern "C" fn dovetenon_overlap(table: &[u16], witness: &mut [u16]) -> u64
+    ensures { λ r. ⌜ ReportedAs (now (table .entry)) (now (witness .entry)) (now (witness .exit)) r ⌝ }
+{
+    packed_report(overlap::overlap(table, witness))
 }
