@@ -115,6 +115,10 @@ unfolding policyIn
 entries-counted ws = length-map-counted (entryIn ws) 0 (entryCount ws)
 
 -- ---- the stack of a pair
+either-way : (t : Bool) → _≡_ {A = List ℕ} (cond t [] []) []
+either-way true = refl
+either-way false = refl
+
 pub zeros-left : (old : List ℕ) → replicate 32 0 ++ drop 32 old ≡ witnessLeft [] old
 unfolding witnessLeft padded
 zeros-left old = refl
@@ -135,27 +139,35 @@ module _ (ws : List ℕ) (i j : ℕ) where
     pub nothing-left : (old new : List ℕ) → (d ≡ e → ⊥) → new ≡ replicate 32 0 ++ drop 32 old → new ≡ witnessLeft (tableStack ws i j) old
     nothing-left old new n f = rw (subjects-differ n) (f ∙ zeros-left old)
 
-    module _ (s : d ≡ e) (a b : ℕ) (t : Bool) (uidA : a ≡ getD ws (2080 + 44 * i + 1) 0) (uidB : b ≡ getD ws (2080 + 44 * j + 1) 0) (told : t ≡ apart (sortIn a) (sortIn b)) where
-      uids-read : tableStack ws i j ≡ cond t [] (bestStack (take (functionCount ws) (drop 1056 ws)) d
-          (map elementIn (take (getD ws (2080 + 44 * i) 0) (drop (2080 + 44 * i + 4) ws))) (map elementIn (take (getD ws (2080 + 44 * j) 0) (drop (2080 + 44 * j + 4) ws))))
-      unfolding tableStack clashStack entryIn contextIn
-      uids-read = rw (← subjectA, ← subjectB, ← uidA, ← uidB, eq-eqb d e s, ← told)
+  module _ (a b : ℕ) (t : Bool) (uidA : a ≡ getD ws (2080 + 44 * i + 1) 0) (uidB : b ≡ getD ws (2080 + 44 * j + 1) 0) (told : t ≡ apart (sortIn a) (sortIn b)) where
+    uids-differ : t ≡ true → tableStack ws i j ≡ []
+    unfolding tableStack clashStack entryIn contextIn
+    uids-differ h = rw (← uidA, ← uidB, ← told, h) (either-way (eqb (getD ws (2080 + 44 * i + 20) 0) (getD ws (2080 + 44 * j + 20) 0)))
 
-      pub no-frames-apart : t ≡ true → 0 ≡ length (tableStack ws i j)
-      no-frames-apart h = rw (uids-read, h)
+    pub no-frames-apart : t ≡ true → 0 ≡ length (tableStack ws i j)
+    no-frames-apart h = rw (uids-differ h)
 
-      pub nothing-left-apart : (old new : List ℕ) → t ≡ true → new ≡ replicate 32 0 ++ drop 32 old → new ≡ witnessLeft (tableStack ws i j) old
-      nothing-left-apart old new h f = rw (uids-read, h) (f ∙ zeros-left old)
+    pub nothing-left-apart : (old new : List ℕ) → t ≡ true → new ≡ replicate 32 0 ++ drop 32 old → new ≡ witnessLeft (tableStack ws i j) old
+    nothing-left-apart old new h f = rw (uids-differ h) (f ∙ zeros-left old)
 
+    module _ (d e : ℕ) (subjectA : d ≡ getD ws (2080 + 44 * i + 20) 0) (subjectB : e ≡ getD ws (2080 + 44 * j + 20) 0) (same : d ≡ e) where
       abbrev best : List ℕ
-      best = bestStack (take (getD ws 4 0) (drop 1056 ws)) d
-          (map elementIn (take (getD ws (2080 + 44 * i) 0) (drop (2080 + 44 * i + 4) ws))) (map elementIn (take (getD ws (2080 + 44 * j) 0) (drop (2080 + 44 * j + 4) ws)))
+      best =
+          bestStack
+          (take (getD ws 4 0) (drop 1056 ws))
+          d
+          (map elementIn (take (getD ws (2080 + 44 * i) 0) (drop (2080 + 44 * i + 4) ws)))
+          (map elementIn (take (getD ws (2080 + 44 * j) 0) (drop (2080 + 44 * j + 4) ws)))
+
+      best-read : t ≡ false → tableStack ws i j ≡ best
+      unfolding tableStack clashStack entryIn contextIn
+      best-read h = rw (← subjectA, ← subjectB, ← uidA, ← uidB, eq-eqb d e same, ← told, h)
 
       pub frames-of-both : (r : ℕ) → t ≡ false → r ≡ length best → r ≡ length (tableStack ws i j)
-      frames-of-both r h f = rw (uids-read, h) f
+      frames-of-both r h f = rw (best-read h) f
 
       pub left-of-both : (old new : List ℕ) → t ≡ false → new ≡ witnessLeft best old → new ≡ witnessLeft (tableStack ws i j) old
-      left-of-both old new h f = rw (uids-read, h) f
+      left-of-both old new h f = rw (best-read h) f
 
 -- ---- a part of the table
 pub taken-short : (ws P : List ℕ) (at n m : ℕ) → P ≡ take n (drop at ws) → n ≤ m → length P ≤ m

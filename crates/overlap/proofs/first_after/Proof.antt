@@ -2,6 +2,7 @@ use Prim.Native.Nat.{_-_, _<_, _≤_}
 use borrow.Author.Needs.{needs}
 use lib.ListN.{length, drop}
 use mathlib.Core.Path.{_≡_}
+use native.Mathlib.Omega.{arith}
 use Rattle.overlap.proofs.Pairs.{none-row, none-more, none-done, past-none, clashing}
 use Rattle.overlap.specs.Told.{NoneBefore}
 use Rattle.overlap.proofs.first_after.Statement.{statement}
@@ -29,7 +30,7 @@ same-length : tie.Need-same-length Inv-loop μ-loop
 same-length c = search needs
 
 returns : tie.Need-returns Inv-loop μ-loop
-returns c = search (needs, clashing)
+returns c = let some : c .before .before .before .pair .result ≡ 0 → ⊥ = λ e. omega arith in search (needs, clashing)
 
 add-j-2 : tie.Need-add-j-2 Inv-loop μ-loop
 add-j-2 c = search needs

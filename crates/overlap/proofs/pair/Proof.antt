@@ -1,4 +1,6 @@
 use borrow.Author.Needs.{needs}
+use mathlib.Core.Path.{_≡_}
+use native.Mathlib.Omega.{arith}
 use Rattle.overlap.proofs.Words.{few-elements, few-functions, no-frames, nothing-left, no-frames-apart, nothing-left-apart, frames-of-both, left-of-both}
 use Rattle.overlap.proofs.pair.Statement.{statement}
 use Rattle.overlap.proofs.pair.Tie as tie
@@ -34,7 +36,7 @@ same-length : tie.Need-same-length
 same-length c = search needs
 
 returns : tie.Need-returns
-returns c = search (needs, no-frames, nothing-left)
+returns c = let differ : c .before .before .before .before .before .before .word .result ≡ c .before .before .before .before .before .word2 .result → ⊥ = λ e. omega arith in search (needs, no-frames, nothing-left)
 
 add-word-3 : tie.Need-add-word-3
 add-word-3 c = search needs
