@@ -65,7 +65,7 @@ module _ (st : State) (n : ℕ) (l : Line) where
 
       go : (t : Bool) → skipped (l .text) ≡ t
           → Does st n l (cond t (cond (l .ended) (pass st []) (unlessEmpty st false (stop 4 n)))
-              (unlessEmpty st (atBlock (st .place) (l .text)) (cond (l .ended) (placeStep n (placeOf (placesFor st (l .text)) (l .text)) (l .text)) (stop 4 n))))
+          (unlessEmpty st (atBlock (st .place) (l .text)) (cond (l .ended) (placeStep n (placeOf (placesFor st (l .text)) (l .text)) (l .text)) (stop 4 n))))
       go true e = ends (l .ended) refl e
       go false e = does-unless (atBlock (st .place) (l .text)) _ (λ z. inr z) (does-cond (l .ended) _ _ (does-place (placeOf (placesFor st (l .text)) (l .text)) (l .text)) (stop-here 3))
 
