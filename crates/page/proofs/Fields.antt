@@ -41,9 +41,6 @@ module _ (t : List ℕ) (c : Cursor) (r : next.Next) (e : pageLeft t c ≡ pageN
       let z : _≡_ {A = ℕ} 0 1 = cc in omega arith
 
   module _ (n p a b : ℕ) (d : Cursor) (q : r ≡ Field n p a b d) where
-    value : paper.Field
-    value = record { line = n; place = p; value = take (b - a) (drop a t) }
-
     left-is : pageLeft t c ≡ andFields (record { line = n; place = p; value = take (b - a) (drop a t) } ∷ []) (pageLeft t d)
     left-is = e ∙ rw q refl
 
