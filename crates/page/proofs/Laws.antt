@@ -70,9 +70,6 @@ module _ (t : List ℕ) (at : ℕ) (l : LineAt) (sp : at < length t → Splits t
   pub line-fits : (n : ℕ) → n ≤ at + 1 → length t * 1 < 2 ^ 63 → Fits w64 (n + 1)
   line-fits n k f = omega arith
 
-  part : List ℕ
-  part = take (l .end - at) (drop at t)
-
   module _ (st : State) (n : ℕ) (P : Page) (inv : pageFrom (stateOf st) n (lines (drop at t)) ≡ P)
       (s : step.Step) (e : lineStep (stateOf st) n (record { text = take (l .end - at) (drop at t); ended = l .ended }) ≡ stepOf st n (take (l .end - at) (drop at t)) s) where
     left : P ≡ after (stepOf st n (take (l .end - at) (drop at t)) s) (λ st′. pageFrom st′ (n + 1) (lines (drop (l .next) t)))

@@ -1,10 +1,12 @@
 -- The walk over a text's fields: what is left at a cursor, and what one step of the walk says of it. Every pass over a text stands on this.
 use Prim.Native.Nat.{ℕ, _+_, _-_, _<_, _≤_, min}
+use mathlib.Core.Path.{_≡_}
 use mathlib.Core.List.{List, [], _∷_}
 use mathlib.Core.Bool.{cond, false}
 use lib.Dec.{ltb}
 use lib.ListN.{length, take, drop}
 use Rattle.paper.specs.Text.{lines, badByteLine}
+use Rattle.paper.specs.Page as paper
 use Rattle.paper.specs.Page.{Page, fields, fault, andFields, pageFrom, pageOf}
 use Rattle.paper.specs.Rules.{unlessLine}
 use Rattle.paper.specs.Promises.{textBytes}
@@ -37,6 +39,18 @@ abbrev pub Within : List ℕ → ℕ → Next → Type 0
 Within t at (Field line place start end after) = (start ≤ end) × (end ≤ length t) × (at < after .at) × (after .at ≤ length t)
 Within t at End = Unit
 Within t at (Fault number line) = Unit
+
+-- the fields of a page, none where it is refused; and those that are left at a cursor
+abbrev pub fieldsOf : Page → List paper.Field
+fieldsOf (fields fs) = fs
+fieldsOf (fault number line) = []
+
+unfoldable pub fieldsLeft : List ℕ → Cursor → List paper.Field
+fieldsLeft t c = fieldsOf (pageLeft t c)
+
+-- nothing that is left is refused: what a pass over an accepted text keeps, beside what it says of the fields that are left
+abbrev pub Accepts : List ℕ → Cursor → Type 0
+Accepts t c = pageLeft t c ≡ fields (fieldsLeft t c)
 
 -- the number and line of a refusal, 0 and 0 where there is none
 abbrev pub refusalOf : Page → Refusal

@@ -1,5 +1,6 @@
 // The page: the walk from field to field, and the first refusal of a text up to its page.
 use lines::LineAt;
+use paper::Reading;
 use step::State;
 use step::Step;
 ghost use mathlib.Core.Path.{_≡_};
@@ -7,6 +8,7 @@ ghost use Prim.Native.Nat.{_+_, _≤_};
 ghost use lib.ListN.{drop};
 ghost use Rattle.paper.specs.Text.{lines};
 ghost use Rattle.paper.specs.Page.{pageFrom, pageOf};
+ghost use Rattle.paper.specs.Promises.{reading};
 ghost use Rattle.step.specs.Steps.{stateOf};
 ghost use Rattle.page.specs.Walk.{lineOf, pageLeft, atStart, pageNext, Within, refusalOf, textPage};
 
@@ -156,4 +158,19 @@ pub fn text_refusal(t: &[u8]) -> Refusal
         };
     }
     page_refusal(t)
+}
+
+// The same as the reader's answer.
+pub fn text_reading(t: &[u8]) -> Reading
+    ensures { λ r. ⌜ r ≡ reading (textPage (now (t .entry))) ⌝ }
+{
+    let r = text_refusal(t);
+    let number = r.number;
+    if number == 0 {
+        return Reading::Accepted;
+    }
+    Reading::Unread {
+        number,
+        line: r.line as u32,
+    }
 }

@@ -148,10 +148,8 @@ fn skipped_step(st: State, n: usize, l: &[u8], ended: bool) -> Step
         return Step::Skipped;
     }
     if needs_block(st) {
-        return Step::Stop {
-            number: 9,
-            line: st.line,
-        };
+        let line = st.line;
+        return Step::Stop { number: 9, line };
     }
     Step::Stop { number: 4, line: n }
 }

@@ -1,0 +1,80 @@
+-- What a pass over the fields of an accepted text learns from one step of the walk. A pass keeps `Accepts t c`, and that its answer for
+-- `fieldsLeft t c` gives its answer for all fields; `fieldsLeft` is then opened by `left-more` and `left-none` and nothing else.
+use mathlib.Core.Path.{_≡_, refl, sym, ap, _∙_}
+use mathlib.Core.List.{List, [], _∷_}
+use Prim.Native.Nat.{ℕ, _-_, _<_, _≤_}
+use native.Mathlib.Omega.{arith}
+use lib.ListN.{length, take, drop}
+use Rattle.paper.specs.Page as paper
+use Rattle.paper.specs.Page.{Page, fields, fault, andFields, beforeFirst, pageOf}
+use Rattle.page.specs.Walk.{pageLeft, atStart, pageNext, Within, fieldsOf, fieldsLeft, Accepts}
+use Rattle.page.specs.declared.Cursor.{Cursor}
+use Rattle.page.specs.declared.Next as next
+use Rattle.page.specs.declared.Next.the-variants.{Field, End, Fault}
+
+-- ---- at the start all fields are left
+
+module _ (t : List ℕ) (c : Cursor) (e : c ≡ atStart) where
+  start-left : pageLeft t c ≡ pageOf t
+  unfolding pageLeft pageOf beforeFirst
+  start-left = rw e refl
+
+  pub accepts-start : (all : List paper.Field) → pageOf t ≡ fields all → Accepts t c
+  unfolding fieldsLeft
+  accepts-start all p = let q : pageLeft t c ≡ fields all = start-left ∙ p in rw q refl
+
+  pub left-start : (all : List paper.Field) → pageOf t ≡ fields all → fieldsLeft t c ≡ all
+  unfolding fieldsLeft
+  left-start all p = ap fieldsOf (start-left ∙ p)
+
+-- ---- a step
+
+module _ (t : List ℕ) (c : Cursor) (r : next.Next) (e : pageLeft t c ≡ pageNext t r) (g : Accepts t c) where
+  pub left-none : r ≡ End → fieldsLeft t c ≡ []
+  unfolding fieldsLeft
+  left-none q = let f : pageLeft t c ≡ fields [] = e ∙ rw q refl in ap fieldsOf f
+
+  -- an accepted text has no refusal
+  pub left-never : (k m : ℕ) → r ≡ Fault k m → ⊥
+  left-never k m q =
+      let f : pageLeft t c ≡ fault k m = e ∙ rw q refl in
+      let z : _≡_ {A = ℕ} 0 1 = cc in omega arith
+
+  module _ (n p a b : ℕ) (d : Cursor) (q : r ≡ Field n p a b d) where
+    left-is : pageLeft t c ≡ andFields (record { line = n; place = p; value = take (b - a) (drop a t) } ∷ []) (pageLeft t d)
+    left-is = e ∙ rw q refl
+
+    pub left-more : fieldsLeft t c ≡ record { line = n; place = p; value = take (b - a) (drop a t) } ∷ fieldsLeft t d
+    unfolding fieldsLeft
+    left-more = go (pageLeft t d) refl left-is
+      where
+        go : (x : Page) → pageLeft t d ≡ x → pageLeft t c ≡ andFields (record { line = n; place = p; value = take (b - a) (drop a t) } ∷ []) x
+            → fieldsOf (pageLeft t c) ≡ record { line = n; place = p; value = take (b - a) (drop a t) } ∷ fieldsOf x
+        go (fields gs) y f = ap fieldsOf f
+        go (fault k m) y f = absurd (let z : _≡_ {A = ℕ} 0 1 = cc in omega arith)
+
+    pub accepts-more : Accepts t d
+    unfolding fieldsLeft
+    accepts-more = go (pageLeft t d) left-is
+      where
+        go : (x : Page) → pageLeft t c ≡ andFields (record { line = n; place = p; value = take (b - a) (drop a t) } ∷ []) x → x ≡ fields (fieldsOf x)
+        go (fields gs) f = refl
+        go (fault k m) f = absurd (let z : _≡_ {A = ℕ} 0 1 = cc in omega arith)
+
+-- ---- where a field's value stands, and that the walk ends
+
+module _ (t : List ℕ) (at : ℕ) (r : next.Next) (w : Within t at r) (n p a b : ℕ) (d : Cursor) (q : r ≡ Field n p a b d) where
+  within : Within t at (Field n p a b d)
+  within = rw q at w
+
+  pub value-from : a ≤ b
+  value-from = within .0
+
+  pub value-to : b ≤ length t
+  value-to = within .1
+
+  pub left-less : length t - d .at < length t - at
+  left-less = omega (arith, within .2, within .3)
+
+  pub left-stays : d .at ≤ length t
+  left-stays = within .3
