@@ -6,8 +6,10 @@ use Rattle.paper.specs.declared.Verdict.{Verdict}
 use Rattle.paper.specs.declared.Verdict.the-variants.{Inside, Granted, Violation, Unjudged}
 use Rattle.paper.specs.declared.Report.{Report}
 use Rattle.paper.specs.declared.Report.the-variants.{Clear, Clash, Unreported}
+use Rattle.paper.specs.declared.Reading.{Reading}
+use Rattle.paper.specs.declared.Reading.the-variants.{Accepted, Unread}
 use Rattle.paper.specs.Promises.{Reported}
-use Rattle.export.specs.Packed.{verdictPacked, reportPacked, ReportedAs}
+use Rattle.export.specs.Packed.{verdictPacked, reportPacked, readingPacked, ReportedAs}
 
 module _ (v : Verdict) where
   pub packs-inside : v ≡ Inside → 0 ≡ verdictPacked v
@@ -46,3 +48,15 @@ module _ (r : Report) where
 
 pub reported-as : (table old new : List ℕ) (r : Report) (p : ℕ) → Reported table old new r → p ≡ reportPacked r → ReportedAs table old new p
 reported-as table old new r p h e = record { report = r; reported = h; packs = e }
+
+module _ (r : Reading) where
+  pub packs-accepted : r ≡ Accepted → 0 ≡ readingPacked r
+  unfolding readingPacked
+  packs-accepted e = rw e
+
+  pub packs-unread : (n l : ℕ) → r ≡ Unread n l → n + l * 4294967296 ≡ readingPacked r
+  unfolding readingPacked
+  packs-unread n l e = rw e
+
+pub packs-reading : (r answer : Reading) (p : ℕ) → p ≡ readingPacked r → r ≡ answer → p ≡ readingPacked answer
+packs-reading r answer p e h = e ∙ ap readingPacked h

@@ -1,12 +1,14 @@
 // The proved functions for C and Rust: include/dovetenon.h says what each answers.
 use judge::Ids;
+use paper::Reading;
 use paper::Report;
 use paper::Verdict;
 ghost use mathlib.Core.Path.{_≡_};
 ghost use Prim.Native.Nat.{_+_, _*_, _%_};
 ghost use Rattle.paper.specs.Table.{wellFormed, policyIn};
-ghost use Rattle.paper.specs.Promises.{judgeEvent, judgeAnswer};
-ghost use Rattle.export.specs.Packed.{verdictPacked, reportPacked, ReportedAs};
+ghost use Rattle.paper.specs.Promises.{judgeEvent, judgeAnswer, reading};
+ghost use Rattle.page.specs.Walk.{textPage};
+ghost use Rattle.export.specs.Packed.{verdictPacked, reportPacked, readingPacked, ReportedAs};
 
 #[no_mangle]
 pub extern "C" fn dovetenon_well_formed(table: &[u16]) -> bool
@@ -98,4 +100,20 @@ pub extern "C" fn dovetenon_overlap(table: &[u16], witness: &mut [u16]) -> u64
     ensures { λ r. ⌜ ReportedAs (now (table .entry)) (now (witness .entry)) (now (witness .exit)) r ⌝ }
 {
     packed_report(overlap::overlap(table, witness))
+}
+
+fn packed_reading(reading: Reading) -> u64
+    ensures { λ r. ⌜ r ≡ readingPacked reading ⌝ }
+{
+    match reading {
+        Reading::Accepted => 0,
+        Reading::Unread { number, line } => (number as u64) + (line as u64) * 4294967296,
+    }
+}
+
+#[no_mangle]
+pub extern "C" fn dovetenon_page(text: &[u8]) -> u64
+    ensures { λ r. ⌜ r ≡ readingPacked (reading (textPage (now (text .entry)))) ⌝ }
+{
+    packed_reading(page::text_reading(text))
 }
