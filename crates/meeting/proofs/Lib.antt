@@ -4,4 +4,4 @@ mod Elements
 mod Chains
 mod Cells
 mod Writing
-mod Witness
+pub mod Witness

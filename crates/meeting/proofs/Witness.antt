@@ -3,12 +3,14 @@ use Prim.Native.Nat.{ℕ, zero, suc, _+_, _-_, _<_, _≤_}
 use native.Mathlib.Omega.{arith}
 use native.Mathlib.Nat.{sub-zero, suc-sub-suc, zero-sub}
 use mathlib.Core.Path.{_≡_, refl, sym, ap, _∙_}
+use mathlib.Core.Bool.{true, false, and-false}
 use mathlib.Core.List.{List, [], _∷_, _++_, map, append-assoc}
 use lib.ListN.{length, getD, drop, replicate, length-replicate}
 use lib.Seq.{drop-append-le}
+use borrow.Author.Tests.{le-leb, lt-leb}
 use Rattle.paper.specs.Table.{elementIn, padded}
 use Rattle.paper.specs.Overlap.{witnessLeft}
-use Rattle.meeting.specs.Best.{firstIn, bestFrom, bestStack}
+use Rattle.meeting.specs.Best.{firstIn, bestFrom, bestStack, fits}
 use Rattle.meeting.specs.Cells.{elementsOf, stackAt, Filled}
 use Rattle.meeting.proofs.Order.{bestFrom-short}
 use Rattle.meeting.proofs.Elements.{length-elements}
@@ -58,3 +60,26 @@ module _ (F : List ℕ) (d low : ℕ) (P Q L H N : List ℕ) (filled : Filled F 
         new ≡ stackAt H N 0 (getD L 0 0) ++ drop (getD L 0 0) mid → new ≡ witnessLeft (bestStack F d (map elementIn P) (map elementIn Q)) old
     frames-written old mid new hp hq f g =
         rw (← best-found) (over-zeros (stackAt H N 0 (getD L 0 0)) old mid new (getD L 0 0) (stack-length H N 0 (getD L 0 0)) (at-most hp hq) f g)
+
+-- ---- what does not fit, and what does
+
+module _ (p q functions witness : List ℕ) where
+  pub long-pattern : 16 < length p → fits p q functions witness ≡ false
+  unfolding fits
+  long-pattern h = rw (lt-leb (length p) 16 h)
+
+  pub long-other : 16 < length q → fits p q functions witness ≡ false
+  unfolding fits
+  long-other h = simp (lt-leb (length q) 16 h, and-false)
+
+  pub many-functions : 1024 < length functions → fits p q functions witness ≡ false
+  unfolding fits
+  many-functions h = simp (lt-leb (length functions) 1024 h, and-false)
+
+  pub little-room : length witness < 32 → fits p q functions witness ≡ false
+  unfolding fits
+  little-room h = simp (lt-leb 32 (length witness) h, and-false)
+
+  pub all-fits : length p ≤ 16 → length q ≤ 16 → length functions ≤ 1024 → 32 ≤ length witness → fits p q functions witness ≡ true
+  unfolding fits
+  all-fits a b c d = rw (le-leb (length p) 16 a, le-leb (length q) 16 b, le-leb (length functions) 1024 c, le-leb 32 (length witness) d)

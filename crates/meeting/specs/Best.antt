@@ -4,7 +4,7 @@ use mathlib.Core.Path.{_≡_}
 use mathlib.Core.Logic.{_⊎_}
 use mathlib.Core.Bool.{Bool, true, false, _&&_, _||_, cond}
 use mathlib.Core.List.{List, [], _∷_}
-use lib.Dec.{eqb, ltb}
+use lib.Dec.{eqb, ltb, leb}
 use lib.ListN.{length, getD}
 use Rattle.paper.specs.Policy.{Element, all, fn}
 use Rattle.paper.specs.Match.{matches}
@@ -86,3 +86,7 @@ bestFrom functions d low P Q = bestBy comesFirst (inDomain functions d) (alone f
 -- the shortest stack that both patterns match with its top in domain d, the lowest of these from the base up; [] where there is none
 unfoldable pub bestStack : List ℕ → ℕ → List Element → List Element → List ℕ
 bestStack functions d P Q = bestFrom functions d (firstIn functions d) P Q
+
+-- patterns of at most 16 elements, at most 1,024 functions, and room for 32 words
+unfoldable pub fits : List ℕ → List ℕ → List ℕ → List ℕ → Bool
+fits p q functions witness = leb (length p) 16 && leb (length q) 16 && leb (length functions) 1024 && leb 32 (length witness)

@@ -3,11 +3,12 @@ ghost use mathlib.Core.Path.{_≡_};
 ghost use mathlib.Core.Bool.{_&&_, cond};
 ghost use mathlib.Core.List.{List, [], _++_, map};
 ghost use Prim.Native.Nat.{ℕ, _+_, _-_, _/_, _%_, _≤_, _<_};
+ghost use lib.Dec.{leb};
 ghost use lib.ListN.{length, drop, getD, replicate};
 ghost use Rattle.paper.specs.Match.{matches};
 ghost use Rattle.paper.specs.Table.{elementIn};
 ghost use Rattle.paper.specs.Overlap.{witnessLeft};
-ghost use Rattle.meeting.specs.Best.{inDomain, lowerOrSame, comesFirst, better, push, firstIn, alone, bestFrom, bestStack};
+ghost use Rattle.meeting.specs.Best.{inDomain, lowerOrSame, comesFirst, better, push, firstIn, alone, bestFrom, bestStack, fits};
 ghost use Rattle.meeting.specs.Cells.{elementsOf, stackAt, stackOf, Filled};
 
 // The pattern from place i on matches the empty stack.
@@ -331,7 +332,7 @@ fn first_in(functions: &[u16], d: u16) -> usize
 }
 
 // Zeros to the first 32 words.
-pub fn zero(witness: &mut [u16])
+fn zero(witness: &mut [u16])
     requires { ⌜ 32 ≤ length (now witness) ⌝ }
     ensures { λ _. ⌜ now (witness .exit) ≡ replicate 32 0 ++ drop 32 (now (witness .entry)) ⌝ }
 {
@@ -358,7 +359,7 @@ fn emit(head: &[u16; 289], next: &[usize; 289], n: usize, witness: &mut [u16])
 }
 
 // The best stack of two patterns in domain d to the first words of the witness, with zeros up to word 32: how many frames it has, or 0.
-pub fn meet(p: &[u16], q: &[u16], functions: &[u16], d: u16, witness: &mut [u16]) -> usize
+fn meet(p: &[u16], q: &[u16], functions: &[u16], d: u16, witness: &mut [u16]) -> usize
     requires { ⌜ (length (now p) ≤ 16) × (length (now q) ≤ 16) × (length (now functions) ≤ 1024) × (32 ≤ length (now witness)) ⌝ }
     ensures { λ r. ⌜ (r ≡ length (bestStack (now (functions .entry)) d (map elementIn (now (p .entry))) (map elementIn (now (q .entry)))))
         × (now (witness .exit) ≡ witnessLeft (bestStack (now (functions .entry)) d (map elementIn (now (p .entry))) (map elementIn (now (q .entry)))) (now (witness .entry))) ⌝ }
@@ -372,4 +373,33 @@ pub fn meet(p: &[u16], q: &[u16], functions: &[u16], d: u16, witness: &mut [u16]
     zero(witness);
     emit(&head, &next, n, witness);
     n
+}
+
+// The same for any patterns, functions and room: where they do not fit, nothing is written and the answer is 0.
+pub fn write_best(p: &[u16], q: &[u16], functions: &[u16], d: u16, witness: &mut [u16]) -> usize
+    ensures { λ r. ⌜ r ≡ cond (fits (now (p .entry)) (now (q .entry)) (now (functions .entry)) (now (witness .entry))) (length (bestStack (now (functions .entry)) d (map elementIn (now (p .entry))) (map elementIn (now (q .entry))))) 0 ⌝ }
+    ensures { λ _. ⌜ now (witness .exit) ≡ cond (fits (now (p .entry)) (now (q .entry)) (now (functions .entry)) (now (witness .entry))) (witnessLeft (bestStack (now (functions .entry)) d (map elementIn (now (p .entry))) (map elementIn (now (q .entry)))) (now (witness .entry))) (now (witness .entry)) ⌝ }
+{
+    if 16 < p.len() {
+        return 0;
+    }
+    if 16 < q.len() {
+        return 0;
+    }
+    if 1024 < functions.len() {
+        return 0;
+    }
+    if witness.len() < 32 {
+        return 0;
+    }
+    meet(p, q, functions, d, witness)
+}
+
+// Zeros to the first 32 words, if there are as many.
+pub fn clear_witness(witness: &mut [u16])
+    ensures { λ _. ⌜ now (witness .exit) ≡ cond (leb 32 (length (now (witness .entry)))) (replicate 32 0 ++ drop 32 (now (witness .entry))) (now (witness .entry)) ⌝ }
+{
+    if 32 <= witness.len() {
+        zero(witness);
+    }
 }

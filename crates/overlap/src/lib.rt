@@ -1,9 +1,9 @@
 // The overlap report: the first pair of entries that one moment can match.
 ghost use mathlib.Core.Path.{_≡_};
-ghost use mathlib.Core.List.{map};
+ghost use mathlib.Core.List.{map, _++_};
 ghost use Prim.Native.Nat.{_+_, _*_, _-_, _<_, _≤_};
 ghost use mathlib.Core.Bool.{true};
-ghost use lib.ListN.{length, getD, take, drop};
+ghost use lib.ListN.{length, getD, take, drop, replicate};
 ghost use Rattle.paper.specs.Table.{sortIn, elementIn, entryIn, policyIn, wellFormed};
 ghost use Rattle.paper.specs.Overlap.{witnessUid, witnessLeft};
 ghost use Rattle.paper.specs.Promises.{Reported};
@@ -46,6 +46,23 @@ fn functions_of(table: &[u16]) -> &[u16]
     table::part(table, 1056, table::count(table, 4))
 }
 
+// Zeros to the witness.
+fn zero(witness: &mut [u16])
+    requires { ⌜ 32 ≤ length (now witness) ⌝ }
+    ensures { λ _. ⌜ now (witness .exit) ≡ replicate 32 0 ++ drop 32 (now (witness .entry)) ⌝ }
+{
+    meeting::clear_witness(witness);
+}
+
+// The best stack of two patterns that fit, to the witness.
+fn meet(p: &[u16], q: &[u16], functions: &[u16], d: u16, witness: &mut [u16]) -> usize
+    requires { ⌜ (length (now p) ≤ 16) × (length (now q) ≤ 16) × (length (now functions) ≤ 1024) × (32 ≤ length (now witness)) ⌝ }
+    ensures { λ r. ⌜ (r ≡ length (bestStack (now (functions .entry)) d (map elementIn (now (p .entry))) (map elementIn (now (q .entry)))))
+        × (now (witness .exit) ≡ witnessLeft (bestStack (now (functions .entry)) d (map elementIn (now (p .entry))) (map elementIn (now (q .entry)))) (now (witness .entry))) ⌝ }
+{
+    meeting::write_best(p, q, functions, d, witness)
+}
+
 // The best stack of the patterns at two places, its top in domain d.
 fn patterns_meet(table: &[u16], a: usize, b: usize, d: u16, witness: &mut [u16]) -> usize
     requires { ⌜ (a ≤ 16384) × (b ≤ 16384) × (getD (now table) a 0 ≤ 16) × (getD (now table) b 0 ≤ 16) × (getD (now table) 4 0 ≤ 1024) × (32 ≤ length (now witness)) ⌝ }
@@ -59,7 +76,7 @@ fn patterns_meet(table: &[u16], a: usize, b: usize, d: u16, witness: &mut [u16])
     let p = pattern_at(table, a);
     let q = pattern_at(table, b);
     let functions = functions_of(table);
-    meeting::meet(p, q, functions, d, witness)
+    meet(p, q, functions, d, witness)
 }
 
 // The stack at which entries i and j clash, to the witness: how many frames it has, or 0.
@@ -72,11 +89,11 @@ fn pair(table: &[u16], i: usize, j: usize, witness: &mut [u16]) -> usize
     let b = 2080 + 44 * j;
     let d = table::word(table, a + 20);
     if d != table::word(table, b + 20) {
-        meeting::zero(witness);
+        zero(witness);
         return 0;
     }
     if uids_apart(table::word(table, a + 1), table::word(table, b + 1)) {
-        meeting::zero(witness);
+        zero(witness);
         return 0;
     }
     patterns_meet(table, a, b, d, witness)
@@ -146,7 +163,7 @@ fn first_clash(table: &[u16], witness: &mut [u16]) -> Report
             }
         }
     }
-    meeting::zero(witness);
+    zero(witness);
     Report::Clear
 }
 
