@@ -1,5 +1,5 @@
-// Judges the trials of document 01 and the stored cases, and writes how many answers differ from those stored.
-// What the bytes of data/judge.cases mean: data/README.md.
+// Judges the trials of document 01 and replays the stored cases, and writes how many answers differ from those stored.
+// What the bytes of the stored cases mean: data/README.md.
 ghost use Prim.Native.Nat.{_<_};
 
 // So many bytes further; far past any file it stays where it is.
@@ -169,6 +169,120 @@ fn replay_tables(b: &[u8]) -> Tally {
     tally
 }
 
+// The first words of the witness are those stored as written, and the rest is untouched: 7, as before the call.
+fn witness_as_stored(b: &[u8], at: usize, written: usize, witness: &[u16]) -> bool {
+    let mut same = true;
+    let mut i: usize = 0;
+    while i < witness.len() {
+        same = both(same, witness[i] == stored_word(b, at, written, i));
+        i += 1;
+    }
+    same
+}
+
+fn stored_word(b: &[u8], at: usize, written: usize, i: usize) -> u16 {
+    if i < written {
+        return short(b, after(at, after(i, i)));
+    }
+    7
+}
+
+fn both(a: bool, b: bool) -> bool {
+    if a {
+        return b;
+    }
+    false
+}
+
+fn fill(words: &mut [u16], w: u16) {
+    let mut i: usize = 0;
+    while i < words.len() {
+        words[i] = w;
+        i += 1;
+    }
+}
+
+// One table and the report of it. At most 64 words are lent; more would stay as they are.
+fn replay_report(b: &[u8], tally: Tally) -> Tally {
+    let at = tally.at;
+    let mut table = [0u16; 65536];
+    let mut witness = [0u16; 64];
+    let then = load_runs(b, after(at, 6), short(b, after(at, 4)), &mut table);
+    let words = long(b, at) as usize;
+    let lent = short(b, then) as usize;
+    let written = short(b, after(then, 10)) as usize;
+    fill(&mut witness, 7);
+    let answer = report(table::part(&table, 0, words), &mut witness, lent);
+    let same = witness_as_stored(b, after(then, 12), written, &witness);
+    let next = after(then, after(12, after(written, written)));
+    tally.with(next, both(same, answer == wide(b, after(then, 2))))
+}
+
+// The report with so many words of the witness lent.
+fn report(table: &[u16], witness: &mut [u16], lent: usize) -> u64 {
+    let base: usize = 0;
+    if lent <= witness.len() {
+        return export::dovetenon_overlap(table, &mut witness[base..lent]);
+    }
+    export::dovetenon_overlap(table, witness)
+}
+
+fn wide(b: &[u8], at: usize) -> u64 {
+    let low = long(b, at) as u64;
+    let high = long(b, after(at, 4)) as u64;
+    low + high * 4294967296
+}
+
+fn replay_reports(b: &[u8]) -> Tally {
+    let mut tally = Tally {
+        at: 4,
+        cases: 0,
+        differ: 0,
+    };
+    let cases = long(b, 0);
+    let mut i: u32 = 0;
+    while i < cases {
+        tally = replay_report(b, tally);
+        i += 1;
+    }
+    tally
+}
+
+// One text and the refusal of its page.
+fn replay_page(b: &[u8], tally: Tally) -> Tally {
+    let at = tally.at;
+    let n = long(b, at) as usize;
+    let start = after(at, 4);
+    let end = after(start, n);
+    let answer = page_at(b, start, end);
+    tally.with(after(end, 8), answer == wide(b, end))
+}
+
+fn page_at(b: &[u8], start: usize, end: usize) -> u64 {
+    if end < start {
+        return 0;
+    }
+    if b.len() < end {
+        return 0;
+    }
+    export::dovetenon_page(&b[start..end])
+}
+
+fn replay_pages(b: &[u8]) -> Tally {
+    let mut tally = Tally {
+        at: 4,
+        cases: 0,
+        differ: 0,
+    };
+    let cases = long(b, 0);
+    let mut i: u32 = 0;
+    while i < cases {
+        tally = replay_page(b, tally);
+        i += 1;
+    }
+    tally
+}
+
 // The table of document 01's file: Meter has the object 0, Main the function 0 (main), Bill the functions 1 (add) and 2 (sum).
 fn write_example(table: &mut [u16]) {
     put(table, 0, 17492);
@@ -223,12 +337,32 @@ fn say(n: u32, what: &[u8]) {
     io::write_all(1, what);
 }
 
+fn tell(tally: Tally, what: &[u8]) {
+    say(tally.cases, what);
+    say(tally.differ, b" answers differ\n");
+}
+
+fn judge_cases() {
+    let mut file = [0u8; 262144];
+    let n = io::read_full(os::open_read(b"judge.cases"), &mut file);
+    tell(replay_tables(&file[..n]), b" stored events judged, ");
+}
+
+fn overlap_cases() {
+    let mut file = [0u8; 131072];
+    let n = io::read_full(os::open_read(b"overlap.cases"), &mut file);
+    tell(replay_reports(&file[..n]), b" stored tables reported on, ");
+}
+
+fn page_cases() {
+    let mut file = [0u8; 131072];
+    let n = io::read_full(os::open_read(b"page.cases"), &mut file);
+    tell(replay_pages(&file[..n]), b" stored pages read, ");
+}
+
 fn main() {
     trials();
-    let mut file = [0u8; 262144];
-    let fd = os::open_read(b"judge.cases");
-    let n = io::read_full(fd, &mut file);
-    let tally = replay_tables(&file[..n]);
-    say(tally.cases, b" stored events judged, ");
-    say(tally.differ, b" answers differ\n");
+    judge_cases();
+    overlap_cases();
+    page_cases();
 }
