@@ -2,17 +2,16 @@
 use Prim.Native.Nat.{ℕ, zero, suc, _+_, _-_, _/_, _%_, _<_, _≤_}
 use native.Mathlib.Omega.{arith}
 use mathlib.Core.Path.{_≡_, refl, sym, ap, subst, subst₂, _∙_}
-use mathlib.Core.Bool.{Bool, true, false, _&&_, _||_, cond, false≢true}
-use mathlib.Core.List.{List, [], _∷_, map}
-use lib.ListN.{length, getD, drop, set, length-drop, length-map}
+use mathlib.Core.Bool.{Bool, true, false, _&&_, cond}
+use mathlib.Core.List.{List, [], _∷_}
+use lib.ListN.{length, getD, drop, set, length-drop}
 use lib.Seq.{getD-set-same, getD-set-other}
 use mathlib.Core.Logic.{_⊎_, inl, inr, _≢_}
 use native.Mathlib.Nat.{eq-or-lt-of-le, not-le-of-lt}
-use lib.Dec.{eqb, ltb}
+use lib.Dec.{eqb}
 use borrow.Author.Tests.{eq-eqb, ne-eqb, eqb-true, eqb-false}
-use Rattle.paper.specs.Policy.{Element, all, fn}
-use Rattle.paper.specs.Match.{swallowing, firstEquals, matches}
-use Rattle.paper.specs.Table.{elementIn}
+use Rattle.paper.specs.Policy.{Element}
+use Rattle.paper.specs.Match.{matches}
 use Rattle.meeting.specs.Best.{better, push, step, row, bestBy, comesFirst, inDomain, alone, bestFrom}
 use Rattle.meeting.specs.Cells.{elementsOf, stackAt, stackOf, Filled}
 use Rattle.meeting.proofs.Elements.{length-elements, at-all, at-fn, at-none}

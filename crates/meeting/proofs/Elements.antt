@@ -1,12 +1,11 @@
 -- The elements from a place of a pattern on.
 use Prim.Native.Nat.{ℕ, zero, suc, _+_, _-_, _<_, _≤_}
-use native.Mathlib.Omega.{arith}
 use native.Mathlib.Numerals.{sub-one}
 use mathlib.Core.Path.{_≡_, refl, sym, _∙_}
 use mathlib.Core.Bool.{Bool, true, false}
-use mathlib.Core.List.{List, [], _∷_, map}
+use mathlib.Core.List.{List, [], _∷_}
 use lib.ListN.{length, drop, getD, drop-of-length-le, length-map}
-use Rattle.paper.specs.Policy.{Element, all, fn}
+use Rattle.paper.specs.Policy.{all, fn}
 use Rattle.paper.specs.Table.{elementIn}
 use Rattle.paper.specs.Match.{swallowing, firstEquals, matches}
 use Rattle.laws.proofs.Places.{drop-more}

@@ -4,15 +4,15 @@ use native.Mathlib.Omega.{arith}
 use native.Mathlib.Numerals.{add-one}
 use native.Mathlib.Nat.{eq-or-lt-of-le}
 use mathlib.Core.Logic.{_⊎_, inl, inr, ⊎-elim}
-use mathlib.Core.Path.{_≡_, refl, sym, ap, subst, _∙_}
+use mathlib.Core.Path.{_≡_, refl, sym, ap, _∙_}
 use mathlib.Core.Bool.{Bool, true, false, _&&_, _||_, cond, false≢true}
 use mathlib.Core.List.{List, [], _∷_}
 use lib.ListN.{length, getD}
 use lib.Dec.{eqb, ltb, leb}
-use borrow.Author.Tests.{eqb-true, eqb-false, eq-eqb, ltb-true, ltb-false, lt-ltb, le-ltb, leb-true, leb-false}
-use Rattle.paper.specs.Policy.{Element, all, fn}
-use Rattle.paper.specs.Match.{swallowing, firstEquals, matches}
-use Rattle.meeting.specs.Best.{topPasses, Meet, better, push, step, row, bestBy, lowerOrSame, comesFirst, NotAbove, NotAfter, inDomain, alone, firstIn, bestFrom, bestStack}
+use borrow.Author.Tests.{eqb-true, eqb-false, eq-eqb, ltb-true, ltb-false, lt-ltb, leb-true, leb-false}
+use Rattle.paper.specs.Policy.{Element, all}
+use Rattle.paper.specs.Match.{matches}
+use Rattle.meeting.specs.Best.{topPasses, Meet, lowerOrSame, comesFirst, NotAbove, NotAfter, inDomain, alone, firstIn, bestFrom, bestStack}
 use Rattle.laws.proofs.Tests.{both-true, both-of, either-of}
 use Rattle.meeting.proofs.Best.{Some, Good, AtMost, sound, short, least, all-keep, all-none}
 

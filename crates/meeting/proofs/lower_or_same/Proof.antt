@@ -1,4 +1,4 @@
-use Prim.Native.Nat.{_-_, _<_, _≤_}
+use Prim.Native.Nat.{_-_, _<_}
 use borrow.Author.Needs.{needs}
 use mathlib.Core.Path.{_≡_}
 use Rattle.meeting.proofs.Chains.{lex-none, lex-below, lex-above, lex-same}
