@@ -6,3 +6,4 @@ pub mod Stretches
 pub mod Counting
 pub mod Blocks
 pub mod Bits
+pub mod Elements

@@ -3,8 +3,8 @@ use Prim.Native.Nat.{ℕ, zero, suc, _+_, _-_, _/_, _%_, _<_, _≤_}
 use native.Mathlib.Omega.{arith}
 use mathlib.Core.Path.{_≡_, refl, sym, ap, subst, subst₂, _∙_}
 use mathlib.Core.Bool.{Bool, true, false, _&&_, cond}
-use mathlib.Core.List.{List, [], _∷_}
-use lib.ListN.{length, getD, drop, set, length-drop}
+use mathlib.Core.List.{List, [], _∷_, map}
+use lib.ListN.{length-map, length, getD, drop, set, length-drop}
 use lib.Seq.{getD-set-same, getD-set-other}
 use mathlib.Core.Logic.{_⊎_, inl, inr, _≢_}
 use native.Mathlib.Nat.{eq-or-lt-of-le, not-le-of-lt}
@@ -12,9 +12,10 @@ use lib.Dec.{eqb}
 use borrow.Author.Tests.{eq-eqb, ne-eqb, eqb-true, eqb-false}
 use Rattle.paper.specs.Policy.{Element}
 use Rattle.paper.specs.Match.{matches}
+use Rattle.paper.specs.Table.{elementIn}
 use Rattle.meeting.specs.Best.{better, push, step, row, bestBy, comesFirst, inDomain, alone, bestFrom}
-use Rattle.meeting.specs.Cells.{elementsOf, stackAt, stackOf, Filled}
-use Rattle.meeting.proofs.Elements.{length-elements, at-all, at-fn, at-none}
+use Rattle.meeting.specs.Cells.{stackAt, stackOf, Filled}
+use Rattle.laws.proofs.Elements.{at-all, at-fn, at-end}
 use Rattle.meeting.proofs.Order.{bestFrom-short}
 use Rattle.meeting.proofs.Chains.{stack-length, at-of}
 
@@ -28,15 +29,15 @@ same-or-not x k = go (eqb x k) refl
 module _ (D : List ℕ) (d low : ℕ) (P Q : List ℕ) (i j : ℕ) where
   -- the bestBy stack of the patterns from two places on
   abbrev pub m : ℕ → ℕ → List ℕ
-  m x y = bestFrom D d low (elementsOf (drop x P)) (elementsOf (drop y Q))
+  m x y = bestFrom D d low (map elementIn (drop x P)) (map elementIn (drop y Q))
 
   -- a frame can be the last
   abbrev pub e : Bool
-  e = matches (elementsOf (drop (i + 1) P)) [] && matches (elementsOf (drop (j + 1) Q)) []
+  e = matches (map elementIn (drop (i + 1) P)) [] && matches (map elementIn (drop (j + 1) Q)) []
 
   pub cell-out : length P ≤ i → m i j ≡ []
   unfolding bestFrom bestBy
-  cell-out h = rw (at-none P i h)
+  cell-out h = rw (at-end P i h)
 
   none-right : (X : List Element) → bestFrom D d low X [] ≡ []
   unfolding bestFrom bestBy row
@@ -44,7 +45,7 @@ module _ (D : List ℕ) (d low : ℕ) (P Q : List ℕ) (i j : ℕ) where
   none-right (a ∷ X) = refl
 
   pub cell-out-2 : length Q ≤ j → m i j ≡ []
-  cell-out-2 h = rw (at-none Q j h) (none-right (elementsOf (drop i P)))
+  cell-out-2 h = rw (at-end Q j h) (none-right (map elementIn (drop i P)))
 
   module _ (hi : i < length P) (hj : j < length Q) where
     pub cell-all-all : getD P i 0 ≡ 0 → getD Q j 0 ≡ 0 → m i j ≡ better comesFirst (better comesFirst (m (i + 1) j) (m i (j + 1))) (cond e (alone D low) [])
@@ -73,30 +74,30 @@ placed {k} {l} {c} h b = (omega arith, b, λ _. h)
 module _ (D : List ℕ) (d low : ℕ) (P Q L H N : List ℕ) (k : ℕ) (filled : Filled D d low P Q L H N (k + 1)) (hp : length P ≤ 16) (hq : length Q ≤ 16) (hk : k < 289) where
   -- the stack of this cell
   abbrev pub here : List ℕ
-  here = bestFrom D d low (elementsOf (drop (k / 17) P)) (elementsOf (drop (k % 17) Q))
+  here = bestFrom D d low (map elementIn (drop (k / 17) P)) (map elementIn (drop (k % 17) Q))
 
   -- the stack of a cell after k
-  pub found : (c x y : ℕ) → k < c → c < 289 → c / 17 ≡ x → c % 17 ≡ y → stackAt H N c (getD L c 0) ≡ bestFrom D d low (elementsOf (drop x P)) (elementsOf (drop y Q))
-  found c x y l h u v = subst₂ (λ (x y : ℕ). stackAt H N c (getD L c 0) ≡ bestFrom D d low (elementsOf (drop x P)) (elementsOf (drop y Q))) u v (filled .right c (omega arith) h)
+  pub found : (c x y : ℕ) → k < c → c < 289 → c / 17 ≡ x → c % 17 ≡ y → stackAt H N c (getD L c 0) ≡ bestFrom D d low (map elementIn (drop x P)) (map elementIn (drop y Q))
+  found c x y l h u v = subst₂ (λ (x y : ℕ). stackAt H N c (getD L c 0) ≡ bestFrom D d low (map elementIn (drop x P)) (map elementIn (drop y Q))) u v (filled .right c (omega arith) h)
 
   pub small : (c : ℕ) → k < c → c < 289 → getD L c 0 < 100
   small c l h =
       let s = ap length (found c (c / 17) (c % 17) l h refl refl) in
       let n = stack-length H N c (getD L c 0) in
-      let b = bestFrom-short D d low (elementsOf (drop (c / 17) P)) (elementsOf (drop (c % 17) Q)) in
-      let u = length-elements (drop (c / 17) P) in
-      let v = length-elements (drop (c % 17) Q) in
+      let b = bestFrom-short D d low (map elementIn (drop (c / 17) P)) (map elementIn (drop (c % 17) Q)) in
+      let u = length-map (drop (c / 17) P) elementIn in
+      let v = length-map (drop (c % 17) Q) elementIn in
       let u′ = length-drop (c / 17) P in
       let v′ = length-drop (c % 17) Q in
       omega arith
 
-  pub up : k / 17 < length P → stackAt H N (k + 17) (getD L (k + 17) 0) ≡ bestFrom D d low (elementsOf (drop (k / 17 + 1) P)) (elementsOf (drop (k % 17) Q))
+  pub up : k / 17 < length P → stackAt H N (k + 17) (getD L (k + 17) 0) ≡ bestFrom D d low (map elementIn (drop (k / 17 + 1) P)) (map elementIn (drop (k % 17) Q))
   up h = found (k + 17) (k / 17 + 1) (k % 17) (omega arith) (omega arith) (omega arith) (omega arith)
 
-  pub left : k % 17 < length Q → stackAt H N (k + 1) (getD L (k + 1) 0) ≡ bestFrom D d low (elementsOf (drop (k / 17) P)) (elementsOf (drop (k % 17 + 1) Q))
+  pub left : k % 17 < length Q → stackAt H N (k + 1) (getD L (k + 1) 0) ≡ bestFrom D d low (map elementIn (drop (k / 17) P)) (map elementIn (drop (k % 17 + 1) Q))
   left h = found (k + 1) (k / 17) (k % 17 + 1) (omega arith) (omega arith) (omega arith) (omega arith)
 
-  pub diag : k / 17 < length P → k % 17 < length Q → stackAt H N (k + 18) (getD L (k + 18) 0) ≡ bestFrom D d low (elementsOf (drop (k / 17 + 1) P)) (elementsOf (drop (k % 17 + 1) Q))
+  pub diag : k / 17 < length P → k % 17 < length Q → stackAt H N (k + 18) (getD L (k + 18) 0) ≡ bestFrom D d low (map elementIn (drop (k / 17 + 1) P)) (map elementIn (drop (k % 17 + 1) Q))
   diag h g = found (k + 18) (k / 17 + 1) (k % 17 + 1) (omega arith) (omega arith) (omega arith) (omega arith)
 
   -- no cell beyond, or nothing in this one
@@ -148,7 +149,7 @@ module _ (D : List ℕ) (d low : ℕ) (P Q L H N : List ℕ) (k : ℕ) (filled :
 
     -- a frame can be the last
     abbrev end : Bool
-    end = matches (elementsOf (drop (k / 17 + 1) P)) [] && matches (elementsOf (drop (k % 17 + 1) Q)) []
+    end = matches (map elementIn (drop (k / 17 + 1) P)) [] && matches (map elementIn (drop (k % 17 + 1) Q)) []
 
     pub done-all-all : (r s : List ℕ) → r ≡ better comesFirst (better comesFirst (stackAt H N (k + 17) (getD L (k + 17) 0)) (stackAt H N (k + 1) (getD L (k + 1) 0))) s →
         s ≡ cond end (alone D low) [] → getD P (k / 17) 0 ≡ 0 → getD Q (k % 17) 0 ≡ 0 → r ≡ here
@@ -186,10 +187,10 @@ module _ (H N : List ℕ) (k h c : ℕ) (ahead : (x : ℕ) → k < x → x < 289
 
 module _ (D : List ℕ) (d low : ℕ) (P Q L H N : List ℕ) (k n h c : ℕ) (filled : Filled D d low P Q L H N (k + 1)) (hk : k < 289)
     (hl : length L ≡ 289) (hh : length H ≡ 289) (hn : length N ≡ 289)
-    (this : stackOf H N n h c ≡ bestFrom D d low (elementsOf (drop (k / 17) P)) (elementsOf (drop (k % 17) Q))) (le : k ≤ c) (lt : c < 289) (far : (n ≡ 0 → ⊥) → k < c) where
-  more-right : (x : ℕ) → (k ≡ x) ⊎ (k < x) → x < 289 → stackAt (set H k h) (set N k c) x (getD (set L k n) x 0) ≡ bestFrom D d low (elementsOf (drop (x / 17) P)) (elementsOf (drop (x % 17) Q))
+    (this : stackOf H N n h c ≡ bestFrom D d low (map elementIn (drop (k / 17) P)) (map elementIn (drop (k % 17) Q))) (le : k ≤ c) (lt : c < 289) (far : (n ≡ 0 → ⊥) → k < c) where
+  more-right : (x : ℕ) → (k ≡ x) ⊎ (k < x) → x < 289 → stackAt (set H k h) (set N k c) x (getD (set L k n) x 0) ≡ bestFrom D d low (map elementIn (drop (x / 17) P)) (map elementIn (drop (x % 17) Q))
   more-right x (inl e) b =
-      subst (λ (x : ℕ). stackAt (set H k h) (set N k c) x (getD (set L k n) x 0) ≡ bestFrom D d low (elementsOf (drop (x / 17) P)) (elementsOf (drop (x % 17) Q))) e
+      subst (λ (x : ℕ). stackAt (set H k h) (set N k c) x (getD (set L k n) x 0) ≡ bestFrom D d low (map elementIn (drop (x / 17) P)) (map elementIn (drop (x % 17) Q))) e
       (rw (getD-set-same L k n 0 (omega arith))
       (sym (at-of (set H k h) (set N k c) k n)
       ∙ rw (getD-set-same H k h 0 (omega arith), getD-set-same N k c 0 (omega arith)) (stable-of H N k h c (λ x l b. filled .ahead x (omega arith) b) (filled .inside) n h c far lt ∙ this)))
@@ -220,7 +221,7 @@ module _ (D : List ℕ) (d low : ℕ) (P Q L H N : List ℕ) (k : ℕ) (filled :
   all-filled h = let e : k ≡ 0 = omega arith in rw e at filled
 
 pub cell-filled : (D : List ℕ) (d low : ℕ) (P Q L H N : List ℕ) (k n h c : ℕ) → Filled D d low P Q L H N k → 0 < k → k ≤ 289 → length L ≡ 289 → length H ≡ 289 → length N ≡ 289 →
-    stackOf H N n h c ≡ bestFrom D d low (elementsOf (drop ((k - 1) / 17) P)) (elementsOf (drop ((k - 1) % 17) Q)) → k - 1 ≤ c → c < 289 → ((n ≡ 0 → ⊥) → k - 1 < c) →
+    stackOf H N n h c ≡ bestFrom D d low (map elementIn (drop ((k - 1) / 17) P)) (map elementIn (drop ((k - 1) % 17) Q)) → k - 1 ≤ c → c < 289 → ((n ≡ 0 → ⊥) → k - 1 < c) →
     Filled D d low P Q (set L (k - 1) n) (set H (k - 1) h) (set N (k - 1) c) (k - 1)
 cell-filled D d low P Q L H N k n h c filled l m hl hh hn this le lt far =
     one-more D d low P Q L H N (k - 1) n h c (before-cell D d low P Q L H N k filled l) (omega arith) hl hh hn this le lt far

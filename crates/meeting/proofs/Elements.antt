@@ -1,48 +1,23 @@
--- The elements from a place of a pattern on.
-use Prim.Native.Nat.{ℕ, zero, suc, _+_, _-_, _<_, _≤_}
-use native.Mathlib.Numerals.{sub-one}
-use mathlib.Core.Path.{_≡_, refl, sym, _∙_}
+-- A pattern from a place on against the empty stack.
+use Prim.Native.Nat.{ℕ, _+_, _-_, _<_, _≤_}
+use mathlib.Core.Path.{_≡_, sym, _∙_}
 use mathlib.Core.Bool.{Bool, true, false}
-use mathlib.Core.List.{List, [], _∷_}
-use lib.ListN.{length, drop, getD, drop-of-length-le, length-map}
-use Rattle.paper.specs.Policy.{all, fn}
+use mathlib.Core.List.{List, [], map}
+use lib.ListN.{length, drop, getD}
 use Rattle.paper.specs.Table.{elementIn}
 use Rattle.paper.specs.Match.{swallowing, firstEquals, matches}
-use Rattle.laws.proofs.Places.{drop-more}
-use Rattle.meeting.specs.Cells.{elementsOf}
+use Rattle.laws.proofs.Elements.{at-all, at-fn, at-end}
 
-function-word : (w : ℕ) → (w ≡ 0 → ⊥) → elementIn w ≡ fn (w - 1)
-unfolding elementIn
-function-word zero h = absurd (h refl)
-function-word (suc f) h = rw (sub-one (suc f))
-
-pub length-elements : (l : List ℕ) → length (elementsOf l) ≡ length l
-unfolding elementsOf
-length-elements l = length-map l elementIn
-
-pub at-all : (l : List ℕ) (i : ℕ) → i < length l → getD l i 0 ≡ 0 → elementsOf (drop i l) ≡ all ∷ elementsOf (drop (i + 1) l)
-unfolding elementsOf elementIn
-at-all l i h e = rw (drop-more l i h, e)
-
-pub at-fn : (l : List ℕ) (i : ℕ) → i < length l → (getD l i 0 ≡ 0 → ⊥) → elementsOf (drop i l) ≡ fn (getD l i 0 - 1) ∷ elementsOf (drop (i + 1) l)
-unfolding elementsOf
-at-fn l i h n = rw (drop-more l i h, function-word (getD l i 0) n)
-
-pub at-none : (l : List ℕ) (i : ℕ) → length l ≤ i → elementsOf (drop i l) ≡ []
-unfolding elementsOf
-at-none l i h = rw (drop-of-length-le l h)
-
--- ---- against the empty stack
 module _ (p : List ℕ) (i : ℕ) where
   -- the pattern from place i on matches the empty stack
   abbrev pub ends : Bool
-  ends = matches (elementsOf (drop i p)) []
+  ends = matches (map elementIn (drop i p)) []
 
   pub ends-at-end : length p ≤ i → ends ≡ true
   unfolding matches
-  ends-at-end h = rw (at-none p i h)
+  ends-at-end h = rw (at-end p i h)
 
-  pub ends-past-all : i < length p → getD p i 0 ≡ 0 → ends ≡ matches (elementsOf (drop (i + 1) p)) []
+  pub ends-past-all : i < length p → getD p i 0 ≡ 0 → ends ≡ matches (map elementIn (drop (i + 1) p)) []
   unfolding matches swallowing
   ends-past-all h e = rw (at-all p i h e)
 

@@ -4,12 +4,8 @@ use Prim.Native.Nat.{ℕ, zero, suc, _<_, _≤_, _/_, _%_}
 use mathlib.Core.Path.{_≡_}
 use mathlib.Core.List.{List, [], _∷_, map}
 use lib.ListN.{getD, drop}
-use Rattle.paper.specs.Policy.{Element}
 use Rattle.paper.specs.Table.{elementIn}
 use Rattle.meeting.specs.Best.{bestFrom}
-
-unfoldable pub elementsOf : List ℕ → List Element
-elementsOf ws = map elementIn ws
 
 -- n frames from cell c on
 unfoldable pub stackAt : List ℕ → List ℕ → ℕ → ℕ → List ℕ
@@ -23,6 +19,6 @@ stackOf H N (suc n) f c = f ∷ stackAt H N c n
 
 -- the cells from k on are right
 pub record Filled (functions : List ℕ) (d low : ℕ) (P Q L H N : List ℕ) (k : ℕ) : Type 0 where
-  pub right : (c : ℕ) → k ≤ c → c < 289 → stackAt H N c (getD L c 0) ≡ bestFrom functions d low (elementsOf (drop (c / 17) P)) (elementsOf (drop (c % 17) Q))
+  pub right : (c : ℕ) → k ≤ c → c < 289 → stackAt H N c (getD L c 0) ≡ bestFrom functions d low (map elementIn (drop (c / 17) P)) (map elementIn (drop (c % 17) Q))
   pub ahead : (c : ℕ) → k ≤ c → c < 289 → c ≤ getD N c 0
   pub inside : (c : ℕ) → getD N c 0 < 289

@@ -8,11 +8,11 @@ ghost use Rattle.paper.specs.Match.{matches};
 ghost use Rattle.paper.specs.Table.{elementIn};
 ghost use Rattle.paper.specs.Overlap.{witnessLeft};
 ghost use Rattle.meeting.specs.Best.{inDomain, lowerOrSame, comesFirst, better, push, firstIn, alone, bestFrom, bestStack};
-ghost use Rattle.meeting.specs.Cells.{elementsOf, stackAt, stackOf, Filled};
+ghost use Rattle.meeting.specs.Cells.{stackAt, stackOf, Filled};
 
 // The pattern from place i on matches the empty stack.
 fn ends(p: &[u16], i: usize) -> bool
-    ensures { λ r. ⌜ r ≡ matches (elementsOf (drop i (now (p .entry)))) [] ⌝ }
+    ensures { λ r. ⌜ r ≡ matches (map elementIn (drop i (now (p .entry)))) [] ⌝ }
 {
     let mut k = i;
     while k < p.len() {
@@ -38,7 +38,7 @@ fn lies_in(functions: &[u16], d: u16, f: u16) -> bool
 
 // Function f may be the top, with nothing of the patterns from places i and j on to come.
 fn may_be_top(p: &[u16], i: usize, q: &[u16], j: usize, functions: &[u16], d: u16, f: u16) -> bool
-    ensures { λ r. ⌜ r ≡ (inDomain (now (functions .entry)) d f && (matches (elementsOf (drop i (now (p .entry)))) [] && matches (elementsOf (drop j (now (q .entry)))) [])) ⌝ }
+    ensures { λ r. ⌜ r ≡ (inDomain (now (functions .entry)) d f && (matches (map elementIn (drop i (now (p .entry)))) [] && matches (map elementIn (drop j (now (q .entry)))) [])) ⌝ }
 {
     if lies_in(functions, d, f) {
         if ends(p, i) { ends(q, j) } else { false }
@@ -165,7 +165,7 @@ fn load(len: &[usize; 289], head: &[u16; 289], next: &[usize; 289], c: usize) ->
 fn low_alone(p: &[u16], i: usize, q: &[u16], j: usize, functions: &[u16], low: usize) -> Chain
     requires { ⌜ length (now functions) ≤ 1024 ⌝ }
     ensures { λ r. ⌜ ((H N : List ℕ) → stackOf H N (r .len) (r .head) (r .next)
-        ≡ cond (matches (elementsOf (drop i (now (p .entry)))) [] && matches (elementsOf (drop j (now (q .entry)))) []) (alone (now (functions .entry)) low) []) ⌝ }
+        ≡ cond (matches (map elementIn (drop i (now (p .entry)))) [] && matches (map elementIn (drop j (now (q .entry)))) []) (alone (now (functions .entry)) low) []) ⌝ }
     ensures { λ r. ⌜ r .next ≡ 288 ⌝ }
 {
     if ends(p, i) {
@@ -259,7 +259,7 @@ fn cell(
     requires { ⌜ (length (now p) ≤ 16) × (length (now q) ≤ 16) × (length (now functions) ≤ 1024) × (k < 289) ⌝ }
     requires { ⌜ Filled (now functions) d low (now p) (now q) (now len) (now head) (now next) (k + 1) ⌝ }
     ensures { λ r. ⌜ stackOf (now (head .entry)) (now (next .entry)) (r .len) (r .head) (r .next)
-        ≡ bestFrom (now (functions .entry)) d low (elementsOf (drop (k / 17) (now (p .entry)))) (elementsOf (drop (k % 17) (now (q .entry)))) ⌝ }
+        ≡ bestFrom (now (functions .entry)) d low (map elementIn (drop (k / 17) (now (p .entry)))) (map elementIn (drop (k % 17) (now (q .entry)))) ⌝ }
     ensures { λ r. ⌜ (k ≤ r .next) × (r .next < 289) × ((r .len ≡ 0 → ⊥) → k < r .next) ⌝ }
 {
     let i = k / 17;
