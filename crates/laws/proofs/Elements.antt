@@ -8,12 +8,15 @@ use Rattle.paper.specs.Policy.{all, fn}
 use Rattle.paper.specs.Table.{elementIn}
 use Rattle.laws.proofs.Places.{drop-more}
 
-word-fn : (w : ℕ) → (w ≡ 0 → ⊥) → elementIn w ≡ fn (w - 1)
+pub word-fn : (w : ℕ) → (w ≡ 0 → ⊥) → elementIn w ≡ fn (w - 1)
 unfolding elementIn
 word-fn zero n = absurd (n refl)
 word-fn (suc f) n = ap fn (omega arith)
 
 module _ (p : List ℕ) (i : ℕ) where
+  pub at-element : i < length p → map elementIn (drop i p) ≡ elementIn (getD p i 0) ∷ map elementIn (drop (i + 1) p)
+  at-element h = rw (drop-more p i h)
+
   pub at-all : i < length p → getD p i 0 ≡ 0 → map elementIn (drop i p) ≡ all ∷ map elementIn (drop (i + 1) p)
   unfolding elementIn
   at-all h e = rw (drop-more p i h, e)

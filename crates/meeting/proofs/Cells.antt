@@ -2,20 +2,20 @@
 use Prim.Native.Nat.{ℕ, zero, suc, _+_, _-_, _/_, _%_, _<_, _≤_}
 use native.Mathlib.Omega.{arith}
 use mathlib.Core.Path.{_≡_, refl, sym, ap, subst, subst₂, _∙_}
-use mathlib.Core.Bool.{Bool, true, false, _&&_, cond}
+use mathlib.Core.Bool.{Bool, true, false, _&&_}
 use mathlib.Core.List.{List, [], _∷_, map}
 use lib.ListN.{length, getD, drop, set, length-drop, length-map}
 use lib.Seq.{getD-set-same, getD-set-other}
 use mathlib.Core.Logic.{_⊎_, inl, inr, _≢_}
 use native.Mathlib.Nat.{eq-or-lt-of-le, not-le-of-lt}
 use lib.Dec.{eqb}
-use borrow.Author.Tests.{eq-eqb, ne-eqb, eqb-true, eqb-false}
+use borrow.Author.Tests.{eqb-true, eqb-false}
 use Rattle.paper.specs.Policy.{Element}
 use Rattle.paper.specs.Match.{matches}
 use Rattle.paper.specs.Table.{elementIn}
-use Rattle.meeting.specs.Best.{better, push, step, row, bestBy, comesFirst, inDomain, alone, bestFrom}
-use Rattle.meeting.specs.Cells.{stackAt, stackOf, Filled}
-use Rattle.laws.proofs.Elements.{at-all, at-fn, at-end}
+use Rattle.meeting.specs.Best.{step, row, bestBy, comesFirst, inDomain, alone, bestFrom}
+use Rattle.meeting.specs.Cells.{stackAt, stackOf, After, Filled}
+use Rattle.laws.proofs.Elements.{at-element, at-end}
 use Rattle.meeting.proofs.Order.{bestFrom-short}
 use Rattle.meeting.proofs.Chains.{stack-length, at-of}
 
@@ -47,29 +47,10 @@ module _ (F : List ℕ) (d low : ℕ) (P Q : List ℕ) (i j : ℕ) where
   other-out : length Q ≤ j → from i j ≡ []
   other-out h = rw (at-end Q j h) (none-right (map elementIn (drop i P)))
 
-  module _ (hi : i < length P) (hj : j < length Q) where
-    cell-all-all : getD P i 0 ≡ 0 → getD Q j 0 ≡ 0 → from i j ≡ better comesFirst (better comesFirst (from (i + 1) j) (from i (j + 1))) (cond last (alone F low) [])
-    unfolding bestFrom bestBy row step
-    cell-all-all a b = rw (at-all P i hi a, at-all Q j hj b)
-
-    cell-all-fn : getD P i 0 ≡ 0 → (getD Q j 0 ≡ 0 → ⊥) → from i j ≡ better comesFirst (from (i + 1) j) (push (inDomain F d (getD Q j 0 - 1) && last) (getD Q j 0 - 1) (from i (j + 1)))
-    unfolding bestFrom bestBy row step
-    cell-all-fn a b = rw (at-all P i hi a, at-fn Q j hj b)
-
-    cell-fn-all : (getD P i 0 ≡ 0 → ⊥) → getD Q j 0 ≡ 0 → from i j ≡ better comesFirst (from i (j + 1)) (push (inDomain F d (getD P i 0 - 1) && last) (getD P i 0 - 1) (from (i + 1) j))
-    unfolding bestFrom bestBy row step
-    cell-fn-all a b = rw (at-fn P i hi a, at-all Q j hj b)
-
-    cell-same : (getD P i 0 ≡ 0 → ⊥) → (getD Q j 0 ≡ 0 → ⊥) → getD P i 0 ≡ getD Q j 0 → from i j ≡ push (inDomain F d (getD P i 0 - 1) && last) (getD P i 0 - 1) (from (i + 1) (j + 1))
-    unfolding bestFrom bestBy row step
-    cell-same a b s = rw (at-fn P i hi a, at-fn Q j hj b, eq-eqb (getD P i 0 - 1) (getD Q j 0 - 1) (omega arith))
-
-    cell-other : (getD P i 0 ≡ 0 → ⊥) → (getD Q j 0 ≡ 0 → ⊥) → (getD P i 0 ≡ getD Q j 0 → ⊥) → from i j ≡ []
-    unfolding bestFrom bestBy row step
-    cell-other a b s = rw (at-fn P i hi a, at-fn Q j hj b, ne-eqb (getD P i 0 - 1) (getD Q j 0 - 1) (λ e. s (omega arith)))
-
-pub placed : {k l c : ℕ} → k < c → c < 289 → (k ≤ c) × (c < 289) × ((l ≡ 0 → ⊥) → k < c)
-placed {k} {l} {c} h b = (omega arith, b, λ _. h)
+  from-step : i < length P → j < length Q →
+      from i j ≡ step comesFirst (inDomain F d) (alone F low) (elementIn (getD P i 0)) (elementIn (getD Q j 0)) last (from (i + 1) (j + 1)) (from (i + 1) j) (from i (j + 1))
+  unfolding bestFrom bestBy row
+  from-step hi hj = rw (at-element P i hi, at-element Q j hj)
 
 module _ (F : List ℕ) (d low : ℕ) (P Q L H N : List ℕ) (k : ℕ) (filled : Filled F d low P Q L H N (k + 1)) (hp : length P ≤ 16) (hq : length Q ≤ 16) (hk : k < 289) where
   -- the stack of this cell
@@ -112,60 +93,26 @@ module _ (F : List ℕ) (d low : ℕ) (P Q L H N : List ℕ) (k : ℕ) (filled :
     pub other-is-read : length Q ≤ k % 17 → stackOf H N l f c ≡ here
     other-is-read h = rw no-stack (sym (other-out F d low P Q (k / 17) (k % 17) h))
 
-    pub functions-differ : k / 17 < length P → k % 17 < length Q → (getD P (k / 17) 0 ≡ 0 → ⊥) → (getD Q (k % 17) 0 ≡ 0 → ⊥) → (getD P (k / 17) 0 ≡ getD Q (k % 17) 0 → ⊥) → stackOf H N l f c ≡ here
-    functions-differ hi hj a b n = rw no-stack (sym (cell-other F d low P Q (k / 17) (k % 17) hi hj a b n))
-
-    pub nothing-placed : c ≡ k → (k ≤ c) × (c < 289) × ((l ≡ 0 → ⊥) → k < c)
-    nothing-placed e = (omega arith, omega arith, λ n. absurd (n none))
-
   module _ (hi : k / 17 < length P) (hj : k % 17 < length Q) where
-    pub small-one : getD L (k + 17) 0 < 100
-    small-one = small (k + 17) (omega arith) (omega arith)
-
-    pub small-other : getD L (k + 1) 0 < 100
-    small-other = small (k + 1) (omega arith) (omega arith)
-
-    pub small-both : getD L (k + 18) 0 < 100
-    small-both = small (k + 18) (omega arith) (omega arith)
-
-    pub far-both : (n w : ℕ) → ((m : ℕ) → m ≤ getD N (k + 17) 0 → m ≤ getD N (k + 1) 0 → m ≤ w → m ≤ n) → w ≡ 288 → k < n
-    far-both n w h e =
+    pub cells-after : After L N k
+    cells-after =
         let a = filled .ahead (k + 17) (omega arith) (omega arith) in
         let b = filled .ahead (k + 1) (omega arith) (omega arith) in
-        let l = h (k + 1) (omega arith) (omega arith) (omega arith) in
-        omega arith
+        record {
+          room = omega arith;
+          fewBoth = small (k + 18) (omega arith) (omega arith);
+          fewOne = small (k + 17) (omega arith) (omega arith);
+          fewOther = small (k + 1) (omega arith) (omega arith);
+          aheadOne = omega arith;
+          aheadOther = omega arith;
+          inside = filled .inside;
+        }
 
-    pub far-one : (n : ℕ) → ((m : ℕ) → m ≤ getD N (k + 17) 0 → m ≤ k + 1 → m ≤ n) → k < n
-    far-one n h =
-        let a = filled .ahead (k + 17) (omega arith) (omega arith) in
-        let l = h (k + 1) (omega arith) (omega arith) in
-        omega arith
-
-    pub far-other : (n : ℕ) → ((m : ℕ) → m ≤ getD N (k + 1) 0 → m ≤ k + 17 → m ≤ n) → k < n
-    far-other n h =
-        let a = filled .ahead (k + 1) (omega arith) (omega arith) in
-        let l = h (k + 1) (omega arith) (omega arith) in
-        omega arith
-
-    -- a frame can be the last
-    abbrev end : Bool
-    end = matches (map elementIn (drop (k / 17 + 1) P)) [] && matches (map elementIn (drop (k % 17 + 1) Q)) []
-
-    pub done-all-all : (r s : List ℕ) → r ≡ better comesFirst (better comesFirst (stackAt H N (k + 17) (getD L (k + 17) 0)) (stackAt H N (k + 1) (getD L (k + 1) 0))) s →
-        s ≡ cond end (alone F low) [] → getD P (k / 17) 0 ≡ 0 → getD Q (k % 17) 0 ≡ 0 → r ≡ here
-    done-all-all r s e f a b = cc (after-one hi, after-other hj, cell-all-all F d low P Q (k / 17) (k % 17) hi hj a b)
-
-    module _ (t : Bool) (r : List ℕ) where
-      pub done-all-fn : r ≡ better comesFirst (stackAt H N (k + 17) (getD L (k + 17) 0)) (push t (getD Q (k % 17) 0 - 1) (stackAt H N (k + 1) (getD L (k + 1) 0))) →
-          t ≡ (inDomain F d (getD Q (k % 17) 0 - 1) && end) → getD P (k / 17) 0 ≡ 0 → (getD Q (k % 17) 0 ≡ 0 → ⊥) → r ≡ here
-      done-all-fn e f a b = cc (after-one hi, after-other hj, cell-all-fn F d low P Q (k / 17) (k % 17) hi hj a b)
-
-      module _ (lone : t ≡ (inDomain F d (getD P (k / 17) 0 - 1) && end)) (a : getD P (k / 17) 0 ≡ 0 → ⊥) where
-        pub done-fn-all : r ≡ better comesFirst (stackAt H N (k + 1) (getD L (k + 1) 0)) (push t (getD P (k / 17) 0 - 1) (stackAt H N (k + 17) (getD L (k + 17) 0))) → getD Q (k % 17) 0 ≡ 0 → r ≡ here
-        done-fn-all e b = cc (after-one hi, after-other hj, cell-fn-all F d low P Q (k / 17) (k % 17) hi hj a b)
-
-        pub done-same : r ≡ push t (getD P (k / 17) 0 - 1) (stackAt H N (k + 18) (getD L (k + 18) 0)) → (getD Q (k % 17) 0 ≡ 0 → ⊥) → getD P (k / 17) 0 ≡ getD Q (k % 17) 0 → r ≡ here
-        done-same e b s = cc (after-both hi hj, cell-same F d low P Q (k / 17) (k % 17) hi hj a b s)
+    pub cell-done : (r : List ℕ) (t : Bool) → t ≡ (matches (map elementIn (drop (k / 17 + 1) P)) [] && matches (map elementIn (drop (k % 17 + 1) Q)) []) →
+        r ≡ step comesFirst (inDomain F d) (alone F low) (elementIn (getD P (k / 17) 0)) (elementIn (getD Q (k % 17) 0)) t
+        (stackAt H N (k + 18) (getD L (k + 18) 0)) (stackAt H N (k + 17) (getD L (k + 17) 0)) (stackAt H N (k + 1) (getD L (k + 1) 0)) → r ≡ here
+    cell-done r t e f =
+        f ∙ (rw (e, after-both hi hj, after-one hi, after-other hj) (sym (from-step F d low P Q (k / 17) (k % 17) hi hj)))
 
 -- ---- one more cell
 module _ (H N : List ℕ) (k h c : ℕ) (ahead : (x : ℕ) → k < x → x < 289 → x ≤ getD N x 0) (inside : (x : ℕ) → getD N x 0 < 289) where

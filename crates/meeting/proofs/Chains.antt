@@ -155,28 +155,21 @@ module _ (H N : List ℕ) where
 pub first-fails : (x w a : Bool) → a ≡ x → a ≡ false → false ≡ (x && w)
 first-fails x w a e h = rw (← e, h)
 
-pub second-fails : (x y w a b : Bool) → a ≡ x → a ≡ true → b ≡ y → b ≡ false → false ≡ (x && (y && w))
-second-fails x y w a b e h f k = rw (← e, h, ← f, k)
+pub second-decides : (x w a : Bool) → a ≡ x → a ≡ true → w ≡ (x && w)
+second-decides x w a e h = rw (← e, h)
 
-pub third-decides : (x y w a b r : Bool) → a ≡ x → a ≡ true → b ≡ y → b ≡ true → r ≡ w → r ≡ (x && (y && w))
-third-decides x y w a b r e h f k g = rw (← e, h, ← f, k) g
-
-module _ (F : List ℕ) (low : ℕ) (x y a b : Bool) (H N : List ℕ) (c h : ℕ) where
-  pub low-found : a ≡ x → a ≡ true → b ≡ y → b ≡ true → low < length F → stackOf H N 1 low c ≡ cond (x && y) (alone F low) []
+module _ (F : List ℕ) (low : ℕ) (last : Bool) (H N : List ℕ) (c h : ℕ) where
+  pub low-found : last ≡ true → low < length F → stackOf H N 1 low c ≡ cond last (alone F low) []
   unfolding alone stackOf stackAt
-  low-found e k f l m = rw (← e, k, ← f, l, lt-ltb low (length F) m)
+  low-found e m = rw (e, lt-ltb low (length F) m)
 
-  pub low-missing : a ≡ x → a ≡ true → b ≡ y → b ≡ true → length F ≤ low → stackOf H N 0 h c ≡ cond (x && y) (alone F low) []
+  pub low-missing : last ≡ true → length F ≤ low → stackOf H N 0 h c ≡ cond last (alone F low) []
   unfolding alone stackOf
-  low-missing e k f l m = rw (← e, k, ← f, l, le-ltb low (length F) m)
+  low-missing e m = rw (e, le-ltb low (length F) m)
 
-  pub other-goes-on : a ≡ x → a ≡ true → b ≡ y → b ≡ false → stackOf H N 0 h c ≡ cond (x && y) (alone F low) []
+  pub low-not-last : last ≡ false → stackOf H N 0 h c ≡ cond last (alone F low) []
   unfolding stackOf
-  other-goes-on e k f l = rw (← e, k, ← f, l)
-
-  pub one-goes-on : a ≡ x → a ≡ false → stackOf H N 0 h c ≡ cond (x && y) (alone F low) []
-  unfolding stackOf
-  one-goes-on e k = rw (← e, k)
+  low-not-last e = rw e
 
 -- ---- two elements of which one is `all`, or both are
 pub next-within : (N : List ℕ) (c n : ℕ) → ((k : ℕ) → getD N k 0 < 289) → n ≡ getD N c 0 → n < 289
