@@ -8,3 +8,4 @@ pub mod Blocks
 pub mod Bits
 pub mod Bytes
 pub mod Pieces
+pub mod Elements

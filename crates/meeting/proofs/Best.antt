@@ -1,9 +1,9 @@
 -- `bestBy` is sound, complete, short and least.
-use Prim.Native.Nat.{ℕ, zero, suc, _+_, _<_, _≤_}
+use Prim.Native.Nat.{ℕ, suc, _+_, _≤_}
 use native.Mathlib.Omega.{arith}
-use mathlib.Core.Logic.{_⊎_, inl, inr, ⊎-elim}
-use mathlib.Core.Path.{_≡_, refl, sym, ap, subst, _∙_}
-use mathlib.Core.Bool.{Bool, true, false, _&&_, _||_, cond, false≢true}
+use mathlib.Core.Logic.{_⊎_, ⊎-elim}
+use mathlib.Core.Path.{_≡_, refl, sym, subst, _∙_}
+use mathlib.Core.Bool.{Bool, true, false, _&&_, cond, false≢true}
 use mathlib.Core.List.{List, [], _∷_}
 use lib.ListN.{length}
 use lib.Dec.{eqb}
@@ -110,7 +110,7 @@ module _ (order : List ℕ → List ℕ → Bool) where
       good-low P Q false e s = absurd s
 
       good-cell : (a b : Element) (P Q : List Element) (diag up left : List ℕ) → Good P Q diag → Good P (b ∷ Q) up → Good (a ∷ P) Q left →
-          Good (a ∷ P) (b ∷ Q) (step order test low a b (matches P []) (matches Q []) diag up left)
+          Good (a ∷ P) (b ∷ Q) (step order test low a b (matches P [] && matches Q []) diag up left)
       unfolding step
       good-cell all all P Q diag up left g h k =
           better-or (Good (all ∷ P) (all ∷ Q)) (better order up left) (cond (matches P [] && matches Q []) low [])
@@ -155,30 +155,30 @@ module _ (order : List ℕ → List ℕ → Bool) where
       low-at true = low-short
       low-at false = omega arith
 
-      cell-short : (a b : Element) (eP eQ : Bool) (m n : ℕ) (diag up left : List ℕ) → length diag ≤ m + n → length up ≤ m + suc n → length left ≤ suc m + n →
-          length (step order test low a b eP eQ diag up left) ≤ suc m + suc n
+      cell-short : (a b : Element) (last : Bool) (m n : ℕ) (diag up left : List ℕ) → length diag ≤ m + n → length up ≤ m + suc n → length left ≤ suc m + n →
+          length (step order test low a b last diag up left) ≤ suc m + suc n
       unfolding step
-      cell-short all all eP eQ m n diag up left g h k =
-          better-or (λ u. length u ≤ suc m + suc n) (better order up left) (cond (eP && eQ) low [])
+      cell-short all all last m n diag up left g h k =
+          better-or (λ u. length u ≤ suc m + suc n) (better order up left) (cond last low [])
           (better-or (λ u. length u ≤ suc m + suc n) up left (omega arith) (omega arith))
-          (omega (arith, low-at (eP && eQ)))
-      cell-short all (fn b) eP eQ m n diag up left g h k =
-          better-or (λ u. length u ≤ suc m + suc n) up (push (test b && (eP && eQ)) b left) (omega arith)
-          (omega (arith, push-short (test b && (eP && eQ)) b left (suc m + n) k))
-      cell-short (fn a) all eP eQ m n diag up left g h k =
-          better-or (λ u. length u ≤ suc m + suc n) left (push (test a && (eP && eQ)) a up) (omega arith)
-          (omega (arith, push-short (test a && (eP && eQ)) a up (m + suc n) h))
-      cell-short (fn a) (fn b) eP eQ m n diag up left g h k = same (eqb a b)
+          (omega (arith, low-at last))
+      cell-short all (fn b) last m n diag up left g h k =
+          better-or (λ u. length u ≤ suc m + suc n) up (push (test b && last) b left) (omega arith)
+          (omega (arith, push-short (test b && last) b left (suc m + n) k))
+      cell-short (fn a) all last m n diag up left g h k =
+          better-or (λ u. length u ≤ suc m + suc n) left (push (test a && last) a up) (omega arith)
+          (omega (arith, push-short (test a && last) a up (m + suc n) h))
+      cell-short (fn a) (fn b) last m n diag up left g h k = same (eqb a b)
         where
-          same : (t : Bool) → length (cond t (push (test a && (eP && eQ)) a diag) []) ≤ suc m + suc n
-          same true = omega (arith, push-short (test a && (eP && eQ)) a diag (m + n) g)
+          same : (t : Bool) → length (cond t (push (test a && last) a diag) []) ≤ suc m + suc n
+          same true = omega (arith, push-short (test a && last) a diag (m + n) g)
           same false = omega arith
 
       row-short : (a : Element) (P : List Element) → ((Q : List Element) → length (bestBy order test low P Q) ≤ length P + length Q) → (Q : List Element) → length (row order test low a (matches P []) (bestBy order test low P) Q) ≤ suc (length P) + length Q
       unfolding row
       row-short a P ih [] = omega arith
       row-short a P ih (b ∷ Q) =
-          cell-short a b (matches P []) (matches Q []) (length P) (length Q) (bestBy order test low P Q) (bestBy order test low P (b ∷ Q)) (row order test low a (matches P []) (bestBy order test low P) Q) (ih Q) (ih (b ∷ Q)) (row-short a P ih Q)
+          cell-short a b (matches P [] && matches Q []) (length P) (length Q) (bestBy order test low P Q) (bestBy order test low P (b ∷ Q)) (row order test low a (matches P []) (bestBy order test low P) Q) (ih Q) (ih (b ∷ Q)) (row-short a P ih Q)
 
       pub short : (P Q : List Element) → length (bestBy order test low P Q) ≤ length P + length Q
       unfolding bestBy
@@ -267,7 +267,7 @@ module _ (order : List ℕ → List ℕ → Bool) where
             (all-split x P (y ∷ w) (c .one))
 
       least-cell : (a b : Element) (P Q : List Element) (diag up left : List ℕ) → ((w : List ℕ) → Meet test P Q w → AtMost diag w) → ((w : List ℕ) → Meet test P (b ∷ Q) w → AtMost up w) → ((w : List ℕ) → Meet test (a ∷ P) Q w → AtMost left w) →
-          (w : List ℕ) → Meet test (a ∷ P) (b ∷ Q) w → AtMost (step order test low a b (matches P []) (matches Q []) diag up left) w
+          (w : List ℕ) → Meet test (a ∷ P) (b ∷ Q) w → AtMost (step order test low a b (matches P [] && matches Q []) diag up left) w
       unfolding step
       least-cell all all P Q diag up left g h k w c = least-both P Q up left h k w c
       least-cell all (fn b) P Q diag up left g h k [] c = absurd (top-none (c .top))

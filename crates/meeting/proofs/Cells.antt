@@ -1,104 +1,85 @@
--- What a cell of the overlap report is, from the cells after it.
+-- What a cell is, from the cells after it.
 use Prim.Native.Nat.{ℕ, zero, suc, _+_, _-_, _/_, _%_, _<_, _≤_}
 use native.Mathlib.Omega.{arith}
 use mathlib.Core.Path.{_≡_, refl, sym, ap, subst, subst₂, _∙_}
-use mathlib.Core.Bool.{Bool, true, false, _&&_, _||_, cond, false≢true}
+use mathlib.Core.Bool.{Bool, true, false, _&&_}
 use mathlib.Core.List.{List, [], _∷_, map}
 use lib.ListN.{length, getD, drop, set, length-drop, length-map}
 use lib.Seq.{getD-set-same, getD-set-other}
 use mathlib.Core.Logic.{_⊎_, inl, inr, _≢_}
 use native.Mathlib.Nat.{eq-or-lt-of-le, not-le-of-lt}
-use lib.Dec.{eqb, ltb}
-use borrow.Author.Tests.{eq-eqb, ne-eqb, eqb-true, eqb-false}
-use Rattle.paper.specs.Policy.{Element, all, fn}
-use Rattle.paper.specs.Match.{swallowing, firstEquals, matches}
+use lib.Dec.{eqb}
+use borrow.Author.Tests.{eqb-true, eqb-false}
+use Rattle.paper.specs.Policy.{Element}
+use Rattle.paper.specs.Match.{matches}
 use Rattle.paper.specs.Table.{elementIn}
-use Rattle.meeting.specs.Best.{better, push, step, row, bestBy, comesFirst, inDomain, alone, bestFrom}
-use Rattle.meeting.specs.Cells.{elementsOf, stackAt, stackOf, Filled}
-use Rattle.meeting.proofs.Elements.{length-elements, at-all, at-fn, at-none}
+use Rattle.meeting.specs.Best.{step, row, bestBy, comesFirst, inDomain, alone, bestFrom}
+use Rattle.meeting.specs.Cells.{stackAt, stackOf, After, Filled}
+use Rattle.laws.proofs.Elements.{at-element, at-end}
 use Rattle.meeting.proofs.Order.{bestFrom-short}
 use Rattle.meeting.proofs.Chains.{stack-length, at-of}
 
-pub same-or-not : (x k : ℕ) → (x ≡ k) ⊎ (x ≡ k → ⊥)
+same-or-not : (x k : ℕ) → (x ≡ k) ⊎ (x ≡ k → ⊥)
 same-or-not x k = go (eqb x k) refl
   where
     go : (t : Bool) → eqb x k ≡ t → (x ≡ k) ⊎ (x ≡ k → ⊥)
     go true e = inl (eqb-true x k e)
     go false e = inr (eqb-false x k e)
 
-module _ (D : List ℕ) (d low : ℕ) (P Q : List ℕ) (i j : ℕ) where
-  -- the bestBy stack of the patterns from two places on
-  abbrev pub m : ℕ → ℕ → List ℕ
-  m x y = bestFrom D d low (elementsOf (drop x P)) (elementsOf (drop y Q))
+module _ (F : List ℕ) (d low : ℕ) (P Q : List ℕ) (i j : ℕ) where
+  -- the best stack of the patterns from two places on
+  abbrev pub from : ℕ → ℕ → List ℕ
+  from x y = bestFrom F d low (map elementIn (drop x P)) (map elementIn (drop y Q))
 
   -- a frame can be the last
-  abbrev pub e : Bool
-  e = matches (elementsOf (drop (i + 1) P)) [] && matches (elementsOf (drop (j + 1) Q)) []
+  abbrev pub last : Bool
+  last = matches (map elementIn (drop (i + 1) P)) [] && matches (map elementIn (drop (j + 1) Q)) []
 
-  pub cell-out : length P ≤ i → m i j ≡ []
+  one-out : length P ≤ i → from i j ≡ []
   unfolding bestFrom bestBy
-  cell-out h = rw (at-none P i h)
+  one-out h = rw (at-end P i h)
 
-  none-right : (X : List Element) → bestFrom D d low X [] ≡ []
+  none-right : (X : List Element) → bestFrom F d low X [] ≡ []
   unfolding bestFrom bestBy row
   none-right [] = refl
   none-right (a ∷ X) = refl
 
-  pub cell-out-2 : length Q ≤ j → m i j ≡ []
-  cell-out-2 h = rw (at-none Q j h) (none-right (elementsOf (drop i P)))
+  other-out : length Q ≤ j → from i j ≡ []
+  other-out h = rw (at-end Q j h) (none-right (map elementIn (drop i P)))
 
-  module _ (hi : i < length P) (hj : j < length Q) where
-    pub cell-all-all : getD P i 0 ≡ 0 → getD Q j 0 ≡ 0 → m i j ≡ better comesFirst (better comesFirst (m (i + 1) j) (m i (j + 1))) (cond e (alone D low) [])
-    unfolding bestFrom bestBy row step
-    cell-all-all a b = rw (at-all P i hi a, at-all Q j hj b)
+  from-step : i < length P → j < length Q →
+      from i j ≡ step comesFirst (inDomain F d) (alone F low) (elementIn (getD P i 0)) (elementIn (getD Q j 0)) last (from (i + 1) (j + 1)) (from (i + 1) j) (from i (j + 1))
+  unfolding bestFrom bestBy row
+  from-step hi hj = rw (at-element P i hi, at-element Q j hj)
 
-    pub cell-all-fn : getD P i 0 ≡ 0 → (getD Q j 0 ≡ 0 → ⊥) → m i j ≡ better comesFirst (m (i + 1) j) (push (inDomain D d (getD Q j 0 - 1) && e) (getD Q j 0 - 1) (m i (j + 1)))
-    unfolding bestFrom bestBy row step
-    cell-all-fn a b = rw (at-all P i hi a, at-fn Q j hj b)
-
-    pub cell-fn-all : (getD P i 0 ≡ 0 → ⊥) → getD Q j 0 ≡ 0 → m i j ≡ better comesFirst (m i (j + 1)) (push (inDomain D d (getD P i 0 - 1) && e) (getD P i 0 - 1) (m (i + 1) j))
-    unfolding bestFrom bestBy row step
-    cell-fn-all a b = rw (at-fn P i hi a, at-all Q j hj b)
-
-    pub cell-same : (getD P i 0 ≡ 0 → ⊥) → (getD Q j 0 ≡ 0 → ⊥) → getD P i 0 ≡ getD Q j 0 → m i j ≡ push (inDomain D d (getD P i 0 - 1) && e) (getD P i 0 - 1) (m (i + 1) (j + 1))
-    unfolding bestFrom bestBy row step
-    cell-same a b s = rw (at-fn P i hi a, at-fn Q j hj b, eq-eqb (getD P i 0 - 1) (getD Q j 0 - 1) (omega arith))
-
-    pub cell-other : (getD P i 0 ≡ 0 → ⊥) → (getD Q j 0 ≡ 0 → ⊥) → (getD P i 0 ≡ getD Q j 0 → ⊥) → m i j ≡ []
-    unfolding bestFrom bestBy row step
-    cell-other a b s = rw (at-fn P i hi a, at-fn Q j hj b, ne-eqb (getD P i 0 - 1) (getD Q j 0 - 1) (λ e. s (omega arith)))
-
-pub placed : {k l c : ℕ} → k < c → c < 289 → (k ≤ c) × (c < 289) × ((l ≡ 0 → ⊥) → k < c)
-placed {k} {l} {c} h b = (omega arith, b, λ _. h)
-
-module _ (D : List ℕ) (d low : ℕ) (P Q L H N : List ℕ) (k : ℕ) (filled : Filled D d low P Q L H N (k + 1)) (hp : length P ≤ 16) (hq : length Q ≤ 16) (hk : k < 289) where
+module _ (F : List ℕ) (d low : ℕ) (P Q L H N : List ℕ) (k : ℕ) (filled : Filled F d low P Q L H N (k + 1)) (hp : length P ≤ 16) (hq : length Q ≤ 16) (hk : k < 289) where
   -- the stack of this cell
   abbrev pub here : List ℕ
-  here = bestFrom D d low (elementsOf (drop (k / 17) P)) (elementsOf (drop (k % 17) Q))
+  here = bestFrom F d low (map elementIn (drop (k / 17) P)) (map elementIn (drop (k % 17) Q))
 
   -- the stack of a cell after k
-  pub found : (c x y : ℕ) → k < c → c < 289 → c / 17 ≡ x → c % 17 ≡ y → stackAt H N c (getD L c 0) ≡ bestFrom D d low (elementsOf (drop x P)) (elementsOf (drop y Q))
-  found c x y l h u v = subst₂ (λ (x y : ℕ). stackAt H N c (getD L c 0) ≡ bestFrom D d low (elementsOf (drop x P)) (elementsOf (drop y Q))) u v (filled .right c (omega arith) h)
+  found : (c x y : ℕ) → k < c → c < 289 → c / 17 ≡ x → c % 17 ≡ y → stackAt H N c (getD L c 0) ≡ bestFrom F d low (map elementIn (drop x P)) (map elementIn (drop y Q))
+  found c x y l h u v = subst₂ (λ (x y : ℕ). stackAt H N c (getD L c 0) ≡ bestFrom F d low (map elementIn (drop x P)) (map elementIn (drop y Q))) u v (filled .right c (omega arith) h)
 
-  pub small : (c : ℕ) → k < c → c < 289 → getD L c 0 < 100
+  small : (c : ℕ) → k < c → c < 289 → getD L c 0 < 100
   small c l h =
       let s = ap length (found c (c / 17) (c % 17) l h refl refl) in
       let n = stack-length H N c (getD L c 0) in
-      let b = bestFrom-short D d low (elementsOf (drop (c / 17) P)) (elementsOf (drop (c % 17) Q)) in
-      let u = length-elements (drop (c / 17) P) in
-      let v = length-elements (drop (c % 17) Q) in
+      let b = bestFrom-short F d low (map elementIn (drop (c / 17) P)) (map elementIn (drop (c % 17) Q)) in
+      let u = length-map (drop (c / 17) P) elementIn in
+      let v = length-map (drop (c % 17) Q) elementIn in
       let u′ = length-drop (c / 17) P in
       let v′ = length-drop (c % 17) Q in
       omega arith
 
-  pub up : k / 17 < length P → stackAt H N (k + 17) (getD L (k + 17) 0) ≡ bestFrom D d low (elementsOf (drop (k / 17 + 1) P)) (elementsOf (drop (k % 17) Q))
-  up h = found (k + 17) (k / 17 + 1) (k % 17) (omega arith) (omega arith) (omega arith) (omega arith)
+  after-one : k / 17 < length P → stackAt H N (k + 17) (getD L (k + 17) 0) ≡ bestFrom F d low (map elementIn (drop (k / 17 + 1) P)) (map elementIn (drop (k % 17) Q))
+  after-one h = found (k + 17) (k / 17 + 1) (k % 17) (omega arith) (omega arith) (omega arith) (omega arith)
 
-  pub left : k % 17 < length Q → stackAt H N (k + 1) (getD L (k + 1) 0) ≡ bestFrom D d low (elementsOf (drop (k / 17) P)) (elementsOf (drop (k % 17 + 1) Q))
-  left h = found (k + 1) (k / 17) (k % 17 + 1) (omega arith) (omega arith) (omega arith) (omega arith)
+  after-other : k % 17 < length Q → stackAt H N (k + 1) (getD L (k + 1) 0) ≡ bestFrom F d low (map elementIn (drop (k / 17) P)) (map elementIn (drop (k % 17 + 1) Q))
+  after-other h = found (k + 1) (k / 17) (k % 17 + 1) (omega arith) (omega arith) (omega arith) (omega arith)
 
-  pub diag : k / 17 < length P → k % 17 < length Q → stackAt H N (k + 18) (getD L (k + 18) 0) ≡ bestFrom D d low (elementsOf (drop (k / 17 + 1) P)) (elementsOf (drop (k % 17 + 1) Q))
-  diag h g = found (k + 18) (k / 17 + 1) (k % 17 + 1) (omega arith) (omega arith) (omega arith) (omega arith)
+  after-both : k / 17 < length P → k % 17 < length Q → stackAt H N (k + 18) (getD L (k + 18) 0) ≡ bestFrom F d low (map elementIn (drop (k / 17 + 1) P)) (map elementIn (drop (k % 17 + 1) Q))
+  after-both h g = found (k + 18) (k / 17 + 1) (k % 17 + 1) (omega arith) (omega arith) (omega arith) (omega arith)
 
   -- no cell beyond, or nothing in this one
   module _ (f c : ℕ) (l : ℕ) (none : l ≡ 0) where
@@ -107,65 +88,31 @@ module _ (D : List ℕ) (d low : ℕ) (P Q L H N : List ℕ) (k : ℕ) (filled :
     no-stack = rw none
 
     pub one-is-read : length P ≤ k / 17 → stackOf H N l f c ≡ here
-    one-is-read h = rw no-stack (sym (cell-out D d low P Q (k / 17) (k % 17) h))
+    one-is-read h = rw no-stack (sym (one-out F d low P Q (k / 17) (k % 17) h))
 
     pub other-is-read : length Q ≤ k % 17 → stackOf H N l f c ≡ here
-    other-is-read h = rw no-stack (sym (cell-out-2 D d low P Q (k / 17) (k % 17) h))
-
-    pub functions-differ : k / 17 < length P → k % 17 < length Q → (getD P (k / 17) 0 ≡ 0 → ⊥) → (getD Q (k % 17) 0 ≡ 0 → ⊥) → (getD P (k / 17) 0 ≡ getD Q (k % 17) 0 → ⊥) → stackOf H N l f c ≡ here
-    functions-differ hi hj a b n = rw no-stack (sym (cell-other D d low P Q (k / 17) (k % 17) hi hj a b n))
-
-    pub nothing-placed : c ≡ k → (k ≤ c) × (c < 289) × ((l ≡ 0 → ⊥) → k < c)
-    nothing-placed e = (omega arith, omega arith, λ n. absurd (n none))
+    other-is-read h = rw no-stack (sym (other-out F d low P Q (k / 17) (k % 17) h))
 
   module _ (hi : k / 17 < length P) (hj : k % 17 < length Q) where
-    pub small-one : getD L (k + 17) 0 < 100
-    small-one = small (k + 17) (omega arith) (omega arith)
-
-    pub small-other : getD L (k + 1) 0 < 100
-    small-other = small (k + 1) (omega arith) (omega arith)
-
-    pub small-both : getD L (k + 18) 0 < 100
-    small-both = small (k + 18) (omega arith) (omega arith)
-
-    pub far-both : (n w : ℕ) → ((m : ℕ) → m ≤ getD N (k + 17) 0 → m ≤ getD N (k + 1) 0 → m ≤ w → m ≤ n) → w ≡ 288 → k < n
-    far-both n w h e =
+    pub cells-after : After L N k
+    cells-after =
         let a = filled .ahead (k + 17) (omega arith) (omega arith) in
         let b = filled .ahead (k + 1) (omega arith) (omega arith) in
-        let l = h (k + 1) (omega arith) (omega arith) (omega arith) in
-        omega arith
+        record {
+          room = omega arith;
+          fewBoth = small (k + 18) (omega arith) (omega arith);
+          fewOne = small (k + 17) (omega arith) (omega arith);
+          fewOther = small (k + 1) (omega arith) (omega arith);
+          aheadOne = omega arith;
+          aheadOther = omega arith;
+          inside = filled .inside;
+        }
 
-    pub far-one : (n : ℕ) → ((m : ℕ) → m ≤ getD N (k + 17) 0 → m ≤ k + 1 → m ≤ n) → k < n
-    far-one n h =
-        let a = filled .ahead (k + 17) (omega arith) (omega arith) in
-        let l = h (k + 1) (omega arith) (omega arith) in
-        omega arith
-
-    pub far-other : (n : ℕ) → ((m : ℕ) → m ≤ getD N (k + 1) 0 → m ≤ k + 17 → m ≤ n) → k < n
-    far-other n h =
-        let a = filled .ahead (k + 1) (omega arith) (omega arith) in
-        let l = h (k + 1) (omega arith) (omega arith) in
-        omega arith
-
-    -- a frame can be the last
-    abbrev end : Bool
-    end = matches (elementsOf (drop (k / 17 + 1) P)) [] && matches (elementsOf (drop (k % 17 + 1) Q)) []
-
-    pub done-all-all : (r s : List ℕ) → r ≡ better comesFirst (better comesFirst (stackAt H N (k + 17) (getD L (k + 17) 0)) (stackAt H N (k + 1) (getD L (k + 1) 0))) s →
-        s ≡ cond end (alone D low) [] → getD P (k / 17) 0 ≡ 0 → getD Q (k % 17) 0 ≡ 0 → r ≡ here
-    done-all-all r s e f a b = cc (up hi, left hj, cell-all-all D d low P Q (k / 17) (k % 17) hi hj a b)
-
-    module _ (t : Bool) (r : List ℕ) where
-      pub done-all-fn : r ≡ better comesFirst (stackAt H N (k + 17) (getD L (k + 17) 0)) (push t (getD Q (k % 17) 0 - 1) (stackAt H N (k + 1) (getD L (k + 1) 0))) →
-          t ≡ (inDomain D d (getD Q (k % 17) 0 - 1) && end) → getD P (k / 17) 0 ≡ 0 → (getD Q (k % 17) 0 ≡ 0 → ⊥) → r ≡ here
-      done-all-fn e f a b = cc (up hi, left hj, cell-all-fn D d low P Q (k / 17) (k % 17) hi hj a b)
-
-      module _ (lone : t ≡ (inDomain D d (getD P (k / 17) 0 - 1) && end)) (a : getD P (k / 17) 0 ≡ 0 → ⊥) where
-        pub done-fn-all : r ≡ better comesFirst (stackAt H N (k + 1) (getD L (k + 1) 0)) (push t (getD P (k / 17) 0 - 1) (stackAt H N (k + 17) (getD L (k + 17) 0))) → getD Q (k % 17) 0 ≡ 0 → r ≡ here
-        done-fn-all e b = cc (up hi, left hj, cell-fn-all D d low P Q (k / 17) (k % 17) hi hj a b)
-
-        pub done-same : r ≡ push t (getD P (k / 17) 0 - 1) (stackAt H N (k + 18) (getD L (k + 18) 0)) → (getD Q (k % 17) 0 ≡ 0 → ⊥) → getD P (k / 17) 0 ≡ getD Q (k % 17) 0 → r ≡ here
-        done-same e b s = cc (diag hi hj, cell-same D d low P Q (k / 17) (k % 17) hi hj a b s)
+    pub cell-done : (r : List ℕ) (t : Bool) → t ≡ (matches (map elementIn (drop (k / 17 + 1) P)) [] && matches (map elementIn (drop (k % 17 + 1) Q)) []) →
+        r ≡ step comesFirst (inDomain F d) (alone F low) (elementIn (getD P (k / 17) 0)) (elementIn (getD Q (k % 17) 0)) t
+        (stackAt H N (k + 18) (getD L (k + 18) 0)) (stackAt H N (k + 17) (getD L (k + 17) 0)) (stackAt H N (k + 1) (getD L (k + 1) 0)) → r ≡ here
+    cell-done r t e f =
+        f ∙ (rw (e, after-both hi hj, after-one hi, after-other hj) (sym (from-step F d low P Q (k / 17) (k % 17) hi hj)))
 
 -- ---- one more cell
 module _ (H N : List ℕ) (k h c : ℕ) (ahead : (x : ℕ) → k < x → x < 289 → x ≤ getD N x 0) (inside : (x : ℕ) → getD N x 0 < 289) where
@@ -185,12 +132,12 @@ module _ (H N : List ℕ) (k h c : ℕ) (ahead : (x : ℕ) → k < x → x < 289
   stable-of zero g y l b = refl
   stable-of (suc n) g y l b = ap (λ (r : List ℕ). g ∷ r) (stable y n (l (λ e. omega arith)) b)
 
-module _ (D : List ℕ) (d low : ℕ) (P Q L H N : List ℕ) (k n h c : ℕ) (filled : Filled D d low P Q L H N (k + 1)) (hk : k < 289)
+module _ (F : List ℕ) (d low : ℕ) (P Q L H N : List ℕ) (k n h c : ℕ) (filled : Filled F d low P Q L H N (k + 1)) (hk : k < 289)
     (hl : length L ≡ 289) (hh : length H ≡ 289) (hn : length N ≡ 289)
-    (this : stackOf H N n h c ≡ bestFrom D d low (elementsOf (drop (k / 17) P)) (elementsOf (drop (k % 17) Q))) (le : k ≤ c) (lt : c < 289) (far : (n ≡ 0 → ⊥) → k < c) where
-  more-right : (x : ℕ) → (k ≡ x) ⊎ (k < x) → x < 289 → stackAt (set H k h) (set N k c) x (getD (set L k n) x 0) ≡ bestFrom D d low (elementsOf (drop (x / 17) P)) (elementsOf (drop (x % 17) Q))
+    (this : stackOf H N n h c ≡ bestFrom F d low (map elementIn (drop (k / 17) P)) (map elementIn (drop (k % 17) Q))) (le : k ≤ c) (lt : c < 289) (far : (n ≡ 0 → ⊥) → k < c) where
+  more-right : (x : ℕ) → (k ≡ x) ⊎ (k < x) → x < 289 → stackAt (set H k h) (set N k c) x (getD (set L k n) x 0) ≡ bestFrom F d low (map elementIn (drop (x / 17) P)) (map elementIn (drop (x % 17) Q))
   more-right x (inl e) b =
-      subst (λ (x : ℕ). stackAt (set H k h) (set N k c) x (getD (set L k n) x 0) ≡ bestFrom D d low (elementsOf (drop (x / 17) P)) (elementsOf (drop (x % 17) Q))) e
+      subst (λ (x : ℕ). stackAt (set H k h) (set N k c) x (getD (set L k n) x 0) ≡ bestFrom F d low (map elementIn (drop (x / 17) P)) (map elementIn (drop (x % 17) Q))) e
       (rw (getD-set-same L k n 0 (omega arith))
       (sym (at-of (set H k h) (set N k c) k n)
       ∙ rw (getD-set-same H k h 0 (omega arith), getD-set-same N k c 0 (omega arith)) (stable-of H N k h c (λ x l b. filled .ahead x (omega arith) b) (filled .inside) n h c far lt ∙ this)))
@@ -201,7 +148,7 @@ module _ (D : List ℕ) (d low : ℕ) (P Q L H N : List ℕ) (k n h c : ℕ) (fi
   more-next x (inl e) = rw e (rw (getD-set-same N k c 0 (omega arith)) (lt, λ _ _. le))
   more-next x (inr ne) = rw (getD-set-other N k x c 0 ne) (filled .inside x, λ l b. filled .ahead x (omega arith) b)
 
-  pub one-more : Filled D d low P Q (set L k n) (set H k h) (set N k c) k
+  pub one-more : Filled F d low P Q (set L k n) (set H k h) (set N k c) k
   one-more = record {
     right = λ x l b. more-right x (eq-or-lt-of-le l) b;
     ahead = λ x l b. more-next x (same-or-not x k) .1 l b;
@@ -209,19 +156,19 @@ module _ (D : List ℕ) (d low : ℕ) (P Q L H N : List ℕ) (k n h c : ℕ) (fi
   }
 
 -- ---- the loop over the cells
-pub none-filled : (D : List ℕ) (d low : ℕ) (P Q L H N : List ℕ) → ((c : ℕ) → getD N c 0 < 289) → Filled D d low P Q L H N 289
-none-filled D d low P Q L H N inside =
+pub none-filled : (F : List ℕ) (d low : ℕ) (P Q L H N : List ℕ) → ((c : ℕ) → getD N c 0 < 289) → Filled F d low P Q L H N 289
+none-filled F d low P Q L H N inside =
     record { right = λ c l h. absurd (not-le-of-lt h l); ahead = λ c l h. absurd (not-le-of-lt h l); inside = inside }
 
-module _ (D : List ℕ) (d low : ℕ) (P Q L H N : List ℕ) (k : ℕ) (filled : Filled D d low P Q L H N k) where
-  pub before-cell : 0 < k → Filled D d low P Q L H N (k - 1 + 1)
+module _ (F : List ℕ) (d low : ℕ) (P Q L H N : List ℕ) (k : ℕ) (filled : Filled F d low P Q L H N k) where
+  pub before-cell : 0 < k → Filled F d low P Q L H N (k - 1 + 1)
   before-cell h = let e : k - 1 + 1 ≡ k = omega arith in rw e filled
 
-  pub all-filled : k ≤ 0 → Filled D d low P Q L H N 0
+  pub all-filled : k ≤ 0 → Filled F d low P Q L H N 0
   all-filled h = let e : k ≡ 0 = omega arith in rw e at filled
 
-pub cell-filled : (D : List ℕ) (d low : ℕ) (P Q L H N : List ℕ) (k n h c : ℕ) → Filled D d low P Q L H N k → 0 < k → k ≤ 289 → length L ≡ 289 → length H ≡ 289 → length N ≡ 289 →
-    stackOf H N n h c ≡ bestFrom D d low (elementsOf (drop ((k - 1) / 17) P)) (elementsOf (drop ((k - 1) % 17) Q)) → k - 1 ≤ c → c < 289 → ((n ≡ 0 → ⊥) → k - 1 < c) →
-    Filled D d low P Q (set L (k - 1) n) (set H (k - 1) h) (set N (k - 1) c) (k - 1)
-cell-filled D d low P Q L H N k n h c filled l m hl hh hn this le lt far =
-    one-more D d low P Q L H N (k - 1) n h c (before-cell D d low P Q L H N k filled l) (omega arith) hl hh hn this le lt far
+pub cell-filled : (F : List ℕ) (d low : ℕ) (P Q L H N : List ℕ) (k n h c : ℕ) → Filled F d low P Q L H N k → 0 < k → k ≤ 289 → length L ≡ 289 → length H ≡ 289 → length N ≡ 289 →
+    stackOf H N n h c ≡ bestFrom F d low (map elementIn (drop ((k - 1) / 17) P)) (map elementIn (drop ((k - 1) % 17) Q)) → k - 1 ≤ c → c < 289 → ((n ≡ 0 → ⊥) → k - 1 < c) →
+    Filled F d low P Q (set L (k - 1) n) (set H (k - 1) h) (set N (k - 1) c) (k - 1)
+cell-filled F d low P Q L H N k n h c filled l m hl hh hn this le lt far =
+    one-more F d low P Q L H N (k - 1) n h c (before-cell F d low P Q L H N k filled l) (omega arith) hl hh hn this le lt far

@@ -1,15 +1,13 @@
--- What each small function of the overlap report shows.
+-- What each small function shows, of stacks that are chains of cells.
 use Prim.Native.Nat.{ℕ, zero, suc, _+_, _-_, _<_, _≤_}
 use native.Mathlib.Omega.{arith}
 use native.Mathlib.Numerals.{add-one, sub-one}
 use mathlib.Core.Path.{_≡_, refl, sym, ap, subst, _∙_}
-use mathlib.Core.Bool.{Bool, true, false, _&&_, _||_, cond, false≢true}
+use mathlib.Core.Bool.{Bool, true, false, _&&_, cond}
 use mathlib.Core.List.{List, [], _∷_}
 use lib.ListN.{length, getD, drop, drop-of-length-le}
-use lib.Dec.{eqb, ltb}
-use borrow.Author.Tests.{eqb-true, eqb-false, eq-eqb, ne-eqb, ltb-true, ltb-false, lt-ltb, le-ltb}
-use Rattle.paper.specs.Policy.{Element, all, fn}
-use Rattle.paper.specs.Match.{swallowing, firstEquals, matches}
+use lib.Dec.{eqb}
+use borrow.Author.Tests.{eq-eqb, ne-eqb, lt-ltb, le-ltb}
 use Rattle.laws.proofs.Places.{drop-more}
 use Rattle.meeting.specs.Best.{better, push, lowerOrSame, comesFirst, inDomain, firstIn, alone}
 use Rattle.meeting.specs.Cells.{stackAt, stackOf}
@@ -39,37 +37,37 @@ unfolding stackAt stackOf
 at-of H N c zero = refl
 at-of H N c (suc n) = refl
 
--- ---- lex
-pub lex-lt : (x y : ℕ) (u v : List ℕ) → x < y → lowerOrSame (x ∷ u) (y ∷ v) ≡ true
+-- ---- two stacks frame by frame
+pub lower : (x y : ℕ) (u v : List ℕ) → x < y → lowerOrSame (x ∷ u) (y ∷ v) ≡ true
 unfolding lowerOrSame
-lex-lt x y u v h = rw (lt-ltb x y h)
+lower x y u v h = rw (lt-ltb x y h)
 
-pub lex-eq : (x y : ℕ) (u v : List ℕ) → x ≡ y → lowerOrSame (x ∷ u) (y ∷ v) ≡ lowerOrSame u v
+pub as-the-rest : (x y : ℕ) (u v : List ℕ) → x ≡ y → lowerOrSame (x ∷ u) (y ∷ v) ≡ lowerOrSame u v
 unfolding lowerOrSame
-lex-eq x y u v e = rw (le-ltb x y (omega arith), eq-eqb x y e)
+as-the-rest x y u v e = rw (le-ltb x y (omega arith), eq-eqb x y e)
 
-pub lex-gt : (x y : ℕ) (u v : List ℕ) → y < x → lowerOrSame (x ∷ u) (y ∷ v) ≡ false
+pub higher : (x y : ℕ) (u v : List ℕ) → y < x → lowerOrSame (x ∷ u) (y ∷ v) ≡ false
 unfolding lowerOrSame
-lex-gt x y u v h = rw (le-ltb x y (omega arith), ne-eqb x y (λ e. omega arith))
+higher x y u v h = rw (le-ltb x y (omega arith), ne-eqb x y (λ e. omega arith))
 
 -- the n frames from cells c and e on decide what those before did
 module _ (H N : List ℕ) (c e n : ℕ) (t : Bool) (so-far : t ≡ lowerOrSame (stackAt H N c n) (stackAt H N e n)) where
-  pub lex-none : n ≤ 0 → true ≡ t
+  pub frames-end : n ≤ 0 → true ≡ t
   unfolding lowerOrSame stackAt
-  lex-none h = let z : n ≡ 0 = omega arith in sym (rw z at so-far)
+  frames-end h = let z : n ≡ 0 = omega arith in sym (rw z at so-far)
 
   module _ (h : 0 < n) where
     opened : t ≡ lowerOrSame (getD H c 0 ∷ stackAt H N (getD N c 0) (n - 1)) (getD H e 0 ∷ stackAt H N (getD N e 0) (n - 1))
     opened = rw (← (stack-more H N c n (λ z. omega arith)), ← (stack-more H N e n (λ z. omega arith))) so-far
 
-    pub lex-below : getD H c 0 < getD H e 0 → true ≡ t
-    lex-below l = sym (opened ∙ lex-lt (getD H c 0) (getD H e 0) (stackAt H N (getD N c 0) (n - 1)) (stackAt H N (getD N e 0) (n - 1)) l)
+    pub frame-below : getD H c 0 < getD H e 0 → true ≡ t
+    frame-below l = sym (opened ∙ lower (getD H c 0) (getD H e 0) (stackAt H N (getD N c 0) (n - 1)) (stackAt H N (getD N e 0) (n - 1)) l)
 
-    pub lex-above : getD H e 0 < getD H c 0 → false ≡ t
-    lex-above l = sym (opened ∙ lex-gt (getD H c 0) (getD H e 0) (stackAt H N (getD N c 0) (n - 1)) (stackAt H N (getD N e 0) (n - 1)) l)
+    pub frame-above : getD H e 0 < getD H c 0 → false ≡ t
+    frame-above l = sym (opened ∙ higher (getD H c 0) (getD H e 0) (stackAt H N (getD N c 0) (n - 1)) (stackAt H N (getD N e 0) (n - 1)) l)
 
-    pub lex-same : getD H e 0 ≤ getD H c 0 → getD H c 0 ≤ getD H e 0 → t ≡ lowerOrSame (stackAt H N (getD N c 0) (n - 1)) (stackAt H N (getD N e 0) (n - 1))
-    lex-same l m = opened ∙ lex-eq (getD H c 0) (getD H e 0) (stackAt H N (getD N c 0) (n - 1)) (stackAt H N (getD N e 0) (n - 1)) (omega arith)
+    pub frame-same : getD H e 0 ≤ getD H c 0 → getD H c 0 ≤ getD H e 0 → t ≡ lowerOrSame (stackAt H N (getD N c 0) (n - 1)) (stackAt H N (getD N e 0) (n - 1))
+    frame-same l m = opened ∙ as-the-rest (getD H c 0) (getD H e 0) (stackAt H N (getD N c 0) (n - 1)) (stackAt H N (getD N e 0) (n - 1)) (omega arith)
 
 -- ---- the lowest function in a domain
 module _ (F : List ℕ) (d i : ℕ) where
@@ -112,26 +110,26 @@ module _ (H N : List ℕ) where
 
     module _ (p : m ≡ 0 → ⊥) (q : n ≡ 0 → ⊥) where
       pub pick-3 : m < n → stackOf H N m h c ≡ better comesFirst (stackOf H N m h c) (stackOf H N n g e)
-      pick-3 l = rw (better-some m h c n g e p q, lex-lt m n (h ∷ stackAt H N c (m - 1)) (g ∷ stackAt H N e (n - 1)) l)
+      pick-3 l = rw (better-some m h c n g e p q, lower m n (h ∷ stackAt H N c (m - 1)) (g ∷ stackAt H N e (n - 1)) l)
 
       pub pick-4 : n < m → stackOf H N n g e ≡ better comesFirst (stackOf H N m h c) (stackOf H N n g e)
-      pick-4 l = rw (better-some m h c n g e p q, lex-gt m n (h ∷ stackAt H N c (m - 1)) (g ∷ stackAt H N e (n - 1)) l)
+      pick-4 l = rw (better-some m h c n g e p q, higher m n (h ∷ stackAt H N c (m - 1)) (g ∷ stackAt H N e (n - 1)) l)
 
       module _ (down : n ≤ m) (up : m ≤ n) where
         same : m ≡ n
         same = omega arith
 
         pub pick-5 : h < g → stackOf H N m h c ≡ better comesFirst (stackOf H N m h c) (stackOf H N n g e)
-        pick-5 k = rw (better-some m h c n g e p q, lex-eq m n (h ∷ stackAt H N c (m - 1)) (g ∷ stackAt H N e (n - 1)) same, lex-lt h g (stackAt H N c (m - 1)) (stackAt H N e (n - 1)) k)
+        pick-5 k = rw (better-some m h c n g e p q, as-the-rest m n (h ∷ stackAt H N c (m - 1)) (g ∷ stackAt H N e (n - 1)) same, lower h g (stackAt H N c (m - 1)) (stackAt H N e (n - 1)) k)
 
         pub pick-6 : g < h → stackOf H N n g e ≡ better comesFirst (stackOf H N m h c) (stackOf H N n g e)
-        pick-6 k = rw (better-some m h c n g e p q, lex-eq m n (h ∷ stackAt H N c (m - 1)) (g ∷ stackAt H N e (n - 1)) same, lex-gt h g (stackAt H N c (m - 1)) (stackAt H N e (n - 1)) k)
+        pick-6 k = rw (better-some m h c n g e p q, as-the-rest m n (h ∷ stackAt H N c (m - 1)) (g ∷ stackAt H N e (n - 1)) same, higher h g (stackAt H N c (m - 1)) (stackAt H N e (n - 1)) k)
 
         module _ (left : g ≤ h) (right : h ≤ g) (t : Bool) (told : t ≡ lowerOrSame (stackAt H N c (m - 1)) (stackAt H N e (m - 1))) where
           pick-end : better comesFirst (stackOf H N m h c) (stackOf H N n g e) ≡ cond t (stackOf H N m h c) (stackOf H N n g e)
           pick-end =
               let told′ : t ≡ lowerOrSame (stackAt H N c (m - 1)) (stackAt H N e (n - 1)) = subst (λ (z : ℕ). t ≡ lowerOrSame (stackAt H N c (m - 1)) (stackAt H N e (z - 1))) same told in
-              rw (better-some m h c n g e p q, lex-eq m n (h ∷ stackAt H N c (m - 1)) (g ∷ stackAt H N e (n - 1)) same, lex-eq h g (stackAt H N c (m - 1)) (stackAt H N e (n - 1)) (omega arith), ← told′)
+              rw (better-some m h c n g e p q, as-the-rest m n (h ∷ stackAt H N c (m - 1)) (g ∷ stackAt H N e (n - 1)) same, as-the-rest h g (stackAt H N c (m - 1)) (stackAt H N e (n - 1)) (omega arith), ← told′)
 
           pub pick-7 : t ≡ true → stackOf H N m h c ≡ better comesFirst (stackOf H N m h c) (stackOf H N n g e)
           pick-7 s = sym (rw s at pick-end)
@@ -157,28 +155,21 @@ module _ (H N : List ℕ) where
 pub first-fails : (x w a : Bool) → a ≡ x → a ≡ false → false ≡ (x && w)
 first-fails x w a e h = rw (← e, h)
 
-pub second-fails : (x y w a b : Bool) → a ≡ x → a ≡ true → b ≡ y → b ≡ false → false ≡ (x && (y && w))
-second-fails x y w a b e h f k = rw (← e, h, ← f, k)
+pub second-decides : (x w a : Bool) → a ≡ x → a ≡ true → w ≡ (x && w)
+second-decides x w a e h = rw (← e, h)
 
-pub third-decides : (x y w a b r : Bool) → a ≡ x → a ≡ true → b ≡ y → b ≡ true → r ≡ w → r ≡ (x && (y && w))
-third-decides x y w a b r e h f k g = rw (← e, h, ← f, k) g
-
-module _ (F : List ℕ) (low : ℕ) (x y a b : Bool) (H N : List ℕ) (c h : ℕ) where
-  pub low-found : a ≡ x → a ≡ true → b ≡ y → b ≡ true → low < length F → stackOf H N 1 low c ≡ cond (x && y) (alone F low) []
+module _ (F : List ℕ) (low : ℕ) (last : Bool) (H N : List ℕ) (c h : ℕ) where
+  pub low-found : last ≡ true → low < length F → stackOf H N 1 low c ≡ cond last (alone F low) []
   unfolding alone stackOf stackAt
-  low-found e k f l m = rw (← e, k, ← f, l, lt-ltb low (length F) m)
+  low-found e m = rw (e, lt-ltb low (length F) m)
 
-  pub low-missing : a ≡ x → a ≡ true → b ≡ y → b ≡ true → length F ≤ low → stackOf H N 0 h c ≡ cond (x && y) (alone F low) []
+  pub low-missing : last ≡ true → length F ≤ low → stackOf H N 0 h c ≡ cond last (alone F low) []
   unfolding alone stackOf
-  low-missing e k f l m = rw (← e, k, ← f, l, le-ltb low (length F) m)
+  low-missing e m = rw (e, le-ltb low (length F) m)
 
-  pub other-goes-on : a ≡ x → a ≡ true → b ≡ y → b ≡ false → stackOf H N 0 h c ≡ cond (x && y) (alone F low) []
+  pub low-not-last : last ≡ false → stackOf H N 0 h c ≡ cond last (alone F low) []
   unfolding stackOf
-  other-goes-on e k f l = rw (← e, k, ← f, l)
-
-  pub one-goes-on : a ≡ x → a ≡ false → stackOf H N 0 h c ≡ cond (x && y) (alone F low) []
-  unfolding stackOf
-  one-goes-on e k = rw (← e, k)
+  low-not-last e = rw e
 
 -- ---- two elements of which one is `all`, or both are
 pub next-within : (N : List ℕ) (c n : ℕ) → ((k : ℕ) → getD N k 0 < 289) → n ≡ getD N c 0 → n < 289

@@ -1,7 +1,8 @@
 pub mod Best
 pub mod Order
-mod Elements
+mod Ends
 mod Chains
 mod Cells
 mod Writing
 pub mod Witness
+mod Steps

@@ -4,15 +4,15 @@ use native.Mathlib.Omega.{arith}
 use native.Mathlib.Numerals.{add-one}
 use native.Mathlib.Nat.{eq-or-lt-of-le}
 use mathlib.Core.Logic.{_⊎_, inl, inr, ⊎-elim}
-use mathlib.Core.Path.{_≡_, refl, sym, ap, subst, _∙_}
+use mathlib.Core.Path.{_≡_, refl, sym, ap, _∙_}
 use mathlib.Core.Bool.{Bool, true, false, _&&_, _||_, cond, false≢true}
 use mathlib.Core.List.{List, [], _∷_}
 use lib.ListN.{length, getD}
 use lib.Dec.{eqb, ltb, leb}
-use borrow.Author.Tests.{eqb-true, eqb-false, eq-eqb, ltb-true, ltb-false, lt-ltb, le-ltb, leb-true, leb-false}
-use Rattle.paper.specs.Policy.{Element, all, fn}
-use Rattle.paper.specs.Match.{swallowing, firstEquals, matches}
-use Rattle.meeting.specs.Best.{topPasses, Meet, better, push, step, row, bestBy, lowerOrSame, comesFirst, NotAbove, NotAfter, inDomain, alone, firstIn, bestFrom, bestStack}
+use borrow.Author.Tests.{eqb-true, eqb-false, eq-eqb, ltb-true, ltb-false, lt-ltb, leb-true, leb-false}
+use Rattle.paper.specs.Policy.{Element, all}
+use Rattle.paper.specs.Match.{matches}
+use Rattle.meeting.specs.Best.{topPasses, Meet, lowerOrSame, comesFirst, NotAbove, NotAfter, inDomain, alone, firstIn, bestFrom, bestStack}
 use Rattle.laws.proofs.Tests.{both-true, both-of, either-of}
 use Rattle.meeting.proofs.Best.{Some, Good, AtMost, sound, short, least, all-keep, all-none}
 
@@ -23,51 +23,51 @@ le-or-lt a b = go (leb a b) refl
     go true e = inl (leb-true a b e)
     go false e = inr (leb-false a b e)
 
-lex-true : (u v : List ℕ) → lowerOrSame u v ≡ true → NotAbove u v
+lower-true : (u v : List ℕ) → lowerOrSame u v ≡ true → NotAbove u v
 unfolding lowerOrSame NotAbove
-lex-true [] v h = tt
-lex-true (x ∷ u) [] h = false≢true h
-lex-true (x ∷ u) (y ∷ v) h =
-    ⊎-elim (λ l. inl (ltb-true x y l)) (λ l. let k = both-of (eqb x y) (lowerOrSame u v) l in inr (eqb-true x y (k .0), lex-true u v (k .1)))
+lower-true [] v h = tt
+lower-true (x ∷ u) [] h = false≢true h
+lower-true (x ∷ u) (y ∷ v) h =
+    ⊎-elim (λ l. inl (ltb-true x y l)) (λ l. let k = both-of (eqb x y) (lowerOrSame u v) l in inr (eqb-true x y (k .0), lower-true u v (k .1)))
     (either-of (ltb x y) (eqb x y && lowerOrSame u v) h)
 
 or-none : (b c : Bool) → (b || c) ≡ false → (b ≡ false) × (c ≡ false)
 or-none true c h = absurd (false≢true (sym h))
 or-none false c h = (refl, h)
 
-lex-false : (u v : List ℕ) → lowerOrSame u v ≡ false → NotAbove v u
+lower-false : (u v : List ℕ) → lowerOrSame u v ≡ false → NotAbove v u
 unfolding lowerOrSame NotAbove
-lex-false [] v h = absurd (false≢true (sym h))
-lex-false (x ∷ u) [] h = tt
-lex-false (x ∷ u) (y ∷ v) h =
+lower-false [] v h = absurd (false≢true (sym h))
+lower-false (x ∷ u) [] h = tt
+lower-false (x ∷ u) (y ∷ v) h =
     let k = or-none (ltb x y) (eqb x y && lowerOrSame u v) h in
-    go (lex-false u v) (eqb x y) refl (k .1) (ltb-false x y (k .0))
+    go (lower-false u v) (eqb x y) refl (k .1) (ltb-false x y (k .0))
   where
     go : (lowerOrSame u v ≡ false → NotAbove v u) → (t : Bool) → eqb x y ≡ t → (t && lowerOrSame u v) ≡ false → y ≤ x → (y < x) ⊎ ((y ≡ x) × NotAbove v u)
     go ih true e l n = inr (sym (eqb-true x y e), ih l)
     go ih false e l n = inl (let ne = eqb-false x y e in omega arith)
 
-lex-chain : (u v w : List ℕ) → NotAbove u v → NotAbove v w → NotAbove u w
+above-chain : (u v w : List ℕ) → NotAbove u v → NotAbove v w → NotAbove u w
 unfolding NotAbove
-lex-chain [] v w h k = tt
-lex-chain (x ∷ u) [] w h k = absurd h
-lex-chain (x ∷ u) (y ∷ v) [] h k = absurd k
-lex-chain (x ∷ u) (y ∷ v) (z ∷ w) h k =
+above-chain [] v w h k = tt
+above-chain (x ∷ u) [] w h k = absurd h
+above-chain (x ∷ u) (y ∷ v) [] h k = absurd k
+above-chain (x ∷ u) (y ∷ v) (z ∷ w) h k =
     ⊎-elim (λ l. ⊎-elim (λ m. inl (omega arith)) (λ m. inl (let e = m .0 in omega arith)) k)
-    (λ l. ⊎-elim (λ m. inl (let e = l .0 in omega arith)) (λ m. inr (l .0 ∙ m .0, lex-chain u v w (l .1) (m .1))) k) h
+    (λ l. ⊎-elim (λ m. inl (let e = l .0 in omega arith)) (λ m. inr (l .0 ∙ m .0, above-chain u v w (l .1) (m .1))) k) h
 
 -- ---- of stacks
 after-chain : (u v w : List ℕ) → NotAfter u v → NotAfter v w → NotAfter u w
 unfolding NotAfter
-after-chain u v w h k = lex-chain (length u ∷ u) (length v ∷ v) (length w ∷ w) h k
+after-chain u v w h k = above-chain (length u ∷ u) (length v ∷ v) (length w ∷ w) h k
 
 after-true : (u v : List ℕ) → comesFirst u v ≡ true → NotAfter u v
 unfolding NotAfter comesFirst
-after-true u v h = lex-true (length u ∷ u) (length v ∷ v) h
+after-true u v h = lower-true (length u ∷ u) (length v ∷ v) h
 
 after-false : (u v : List ℕ) → comesFirst u v ≡ false → NotAfter v u
 unfolding NotAfter comesFirst
-after-false u v h = lex-false (length u ∷ u) (length v ∷ v) h
+after-false u v h = lower-false (length u ∷ u) (length v ∷ v) h
 
 after-front : (a : ℕ) (u w : List ℕ) → NotAfter u w → NotAfter (a ∷ u) (a ∷ w)
 unfolding NotAfter NotAbove
@@ -82,85 +82,85 @@ after-longer : (x : ℕ) (w : List ℕ) → NotAfter w (x ∷ w)
 unfolding NotAfter NotAbove
 after-longer x w = inl (omega arith)
 
-dom-split : (D : List ℕ) (d x : ℕ) → inDomain D d x ≡ true → (x < length D) × (getD D x 0 ≡ d)
+dom-split : (F : List ℕ) (d x : ℕ) → inDomain F d x ≡ true → (x < length F) × (getD F x 0 ≡ d)
 unfolding inDomain
-dom-split D d x h = let k = both-of (ltb x (length D)) (eqb (getD D x 0) d) h in (ltb-true x (length D) (k .0), eqb-true (getD D x 0) d (k .1))
+dom-split F d x h = let k = both-of (ltb x (length F)) (eqb (getD F x 0) d) h in (ltb-true x (length F) (k .0), eqb-true (getD F x 0) d (k .1))
 
 -- x is the lowest function in domain d, or there is none and x is past the end
-pub record Lowest (D : List ℕ) (d x : ℕ) : Type 0 where
-  pub here : x < length D → getD D x 0 ≡ d
-  pub least : (y : ℕ) → y < x → getD D y 0 ≡ d → ⊥
+pub record Lowest (F : List ℕ) (d x : ℕ) : Type 0 where
+  pub here : x < length F → getD F x 0 ≡ d
+  pub least : (y : ℕ) → y < x → getD F y 0 ≡ d → ⊥
 
 below-none : {x : ℕ} → x < 0 → ⊥
 below-none {x} l = omega arith
 
-first-lowest : (D : List ℕ) (d : ℕ) → Lowest D d (firstIn D d)
+first-lowest : (F : List ℕ) (d : ℕ) → Lowest F d (firstIn F d)
 unfolding firstIn
 first-lowest [] d = record { here = λ l. absurd (below-none l); least = λ y l e. absurd (below-none l) }
-first-lowest (x ∷ D) d = go (first-lowest D d) (eqb x d) refl
+first-lowest (x ∷ F) d = go (first-lowest F d) (eqb x d) refl
   where
-    go : Lowest D d (firstIn D d) → (t : Bool) → eqb x d ≡ t → Lowest (x ∷ D) d (cond t 0 (firstIn D d + 1))
+    go : Lowest F d (firstIn F d) → (t : Bool) → eqb x d ≡ t → Lowest (x ∷ F) d (cond t 0 (firstIn F d + 1))
     go rest true e = record { here = λ _. eqb-true x d e; least = λ y l f. absurd (below-none l) }
     go rest false e = rw add-one (record { here = λ l. rest .here (omega arith); least = before rest e })
       where
-        before : Lowest D d (firstIn D d) → eqb x d ≡ false → (y : ℕ) → y < suc (firstIn D d) → getD (x ∷ D) y 0 ≡ d → ⊥
+        before : Lowest F d (firstIn F d) → eqb x d ≡ false → (y : ℕ) → y < suc (firstIn F d) → getD (x ∷ F) y 0 ≡ d → ⊥
         before rest e zero l f = eqb-false x d e f
         before rest e (suc y) l f = rest .least y (omega arith) f
 
-module _ (D : List ℕ) (d low : ℕ) where
-  low-short : length (alone D low) ≤ 1
+module _ (F : List ℕ) (d low : ℕ) where
+  low-short : length (alone F low) ≤ 1
   unfolding alone
-  low-short = go (ltb low (length D))
+  low-short = go (ltb low (length F))
     where
       go : (t : Bool) → length (cond t (low ∷ []) []) ≤ 1
       go true = omega arith
       go false = omega arith
 
-  pub bestFrom-short : (P Q : List Element) → length (bestFrom D d low P Q) ≤ length P + length Q
+  pub bestFrom-short : (P Q : List Element) → length (bestFrom F d low P Q) ≤ length P + length Q
   unfolding bestFrom
-  bestFrom-short P Q = short comesFirst (inDomain D d) (alone D low) low-short P Q
+  bestFrom-short P Q = short comesFirst (inDomain F d) (alone F low) low-short P Q
 
-module _ (D : List ℕ) (d low : ℕ) (lowest : Lowest D d low) where
-  low-least : (x : ℕ) → inDomain D d x ≡ true → Some (alone D low) × NotAfter (alone D low) (x ∷ [])
+module _ (F : List ℕ) (d low : ℕ) (lowest : Lowest F d low) where
+  low-least : (x : ℕ) → inDomain F d x ≡ true → Some (alone F low) × NotAfter (alone F low) (x ∷ [])
   unfolding alone NotAfter NotAbove
-  low-least x h = go (le-or-lt low x) (dom-split D d x h)
+  low-least x h = go (le-or-lt low x) (dom-split F d x h)
     where
-      go : (low ≤ x) ⊎ (x < low) → (x < length D) × (getD D x 0 ≡ d) → Some (alone D low) × NotAfter (alone D low) (x ∷ [])
-      go (inl l) k = rw (lt-ltb low (length D) (omega arith)) (tt, inr (refl, ⊎-elim (λ e. inr (e, tt)) (λ m. inl m) (eq-or-lt-of-le l)))
+      go : (low ≤ x) ⊎ (x < low) → (x < length F) × (getD F x 0 ≡ d) → Some (alone F low) × NotAfter (alone F low) (x ∷ [])
+      go (inl l) k = rw (lt-ltb low (length F) (omega arith)) (tt, inr (refl, ⊎-elim (λ e. inr (e, tt)) (λ m. inl m) (eq-or-lt-of-le l)))
       go (inr l) k = absurd (lowest .least x l (k .1))
 
-  low-good : Some (alone D low) → (P Q : List Element) → matches P [] ≡ true → matches Q [] ≡ true → Meet (inDomain D d) (all ∷ P) (all ∷ Q) (alone D low)
+  low-good : Some (alone F low) → (P Q : List Element) → matches P [] ≡ true → matches Q [] ≡ true → Meet (inDomain F d) (all ∷ P) (all ∷ Q) (alone F low)
   unfolding alone inDomain topPasses
-  low-good s P Q m n = go (ltb low (length D)) refl s
+  low-good s P Q m n = go (ltb low (length F)) refl s
     where
-      go : (t : Bool) → ltb low (length D) ≡ t → Some (cond t (low ∷ []) []) → Meet (inDomain D d) (all ∷ P) (all ∷ Q) (cond t (low ∷ []) [])
-      go true e s = record { one = all-keep low P [] (all-none P ∙ m); other = all-keep low Q [] (all-none Q ∙ n); top = both-true (ltb low (length D)) (eqb (getD D low 0) d) e (eq-eqb (getD D low 0) d (lowest .here (ltb-true low (length D) e))) }
+      go : (t : Bool) → ltb low (length F) ≡ t → Some (cond t (low ∷ []) []) → Meet (inDomain F d) (all ∷ P) (all ∷ Q) (cond t (low ∷ []) [])
+      go true e s = record { one = all-keep low P [] (all-none P ∙ m); other = all-keep low Q [] (all-none Q ∙ n); top = both-true (ltb low (length F)) (eqb (getD F low 0) d) e (eq-eqb (getD F low 0) d (lowest .here (ltb-true low (length F) e))) }
       go false e s = absurd s
 
   module _ (P Q : List Element) where
     -- what `bestFrom` finds, both patterns meet in
-    pub bestFrom-sound : Some (bestFrom D d low P Q) → Meet (inDomain D d) P Q (bestFrom D d low P Q)
+    pub bestFrom-sound : Some (bestFrom F d low P Q) → Meet (inDomain F d) P Q (bestFrom F d low P Q)
     unfolding bestFrom Good
-    bestFrom-sound s = sound comesFirst (inDomain D d) (alone D low) low-good P Q s
+    bestFrom-sound s = sound comesFirst (inDomain F d) (alone F low) low-good P Q s
 
     -- where they meet, `bestFrom` finds a stack that comes no later
-    pub bestFrom-least : (w : List ℕ) → Meet (inDomain D d) P Q w → Some (bestFrom D d low P Q) × NotAfter (bestFrom D d low P Q) w
+    pub bestFrom-least : (w : List ℕ) → Meet (inDomain F d) P Q w → Some (bestFrom F d low P Q) × NotAfter (bestFrom F d low P Q) w
     unfolding bestFrom AtMost
-    bestFrom-least w c = least comesFirst (inDomain D d) (alone D low) NotAfter after-chain after-true after-false after-front after-alone after-longer low-least P Q w c
+    bestFrom-least w c = least comesFirst (inDomain F d) (alone F low) NotAfter after-chain after-true after-false after-front after-alone after-longer low-least P Q w c
 
 -- ---- the best stack of two patterns
-module _ (D : List ℕ) (d : ℕ) (P Q : List Element) where
-  pub best-short : length (bestStack D d P Q) ≤ length P + length Q
+module _ (F : List ℕ) (d : ℕ) (P Q : List Element) where
+  pub best-short : length (bestStack F d P Q) ≤ length P + length Q
   unfolding bestStack
-  best-short = bestFrom-short D d (firstIn D d) P Q
+  best-short = bestFrom-short F d (firstIn F d) P Q
 
-  pub best-sound : Some (bestStack D d P Q) → Meet (inDomain D d) P Q (bestStack D d P Q)
+  pub best-sound : Some (bestStack F d P Q) → Meet (inDomain F d) P Q (bestStack F d P Q)
   unfolding bestStack
-  best-sound s = bestFrom-sound D d (firstIn D d) (first-lowest D d) P Q s
+  best-sound s = bestFrom-sound F d (firstIn F d) (first-lowest F d) P Q s
 
-  pub best-least : (w : List ℕ) → Meet (inDomain D d) P Q w → Some (bestStack D d P Q) × NotAfter (bestStack D d P Q) w
+  pub best-least : (w : List ℕ) → Meet (inDomain F d) P Q w → Some (bestStack F d P Q) × NotAfter (bestStack F d P Q) w
   unfolding bestStack
-  best-least w c = bestFrom-least D d (firstIn D d) (first-lowest D d) P Q w c
+  best-least w c = bestFrom-least F d (firstIn F d) (first-lowest F d) P Q w c
 
 -- ---- two stacks neither of which comes after the other are one
 above-anti : (u v : List ℕ) → NotAbove u v → NotAbove v u → u ≡ v

@@ -2,18 +2,17 @@
 use Prim.Native.Nat.{ℕ, zero, suc, _+_, _-_, _<_, _≤_}
 use native.Mathlib.Omega.{arith}
 use native.Mathlib.Nat.{sub-zero, suc-sub-suc, zero-sub}
-use mathlib.Core.Path.{_≡_, refl, sym, ap, _∙_}
+use mathlib.Core.Path.{_≡_, sym, ap, _∙_}
 use mathlib.Core.Bool.{true, false, and-false}
-use mathlib.Core.List.{List, [], _∷_, _++_, map, append-assoc}
-use lib.ListN.{length, getD, drop, replicate, length-replicate}
+use mathlib.Core.List.{List, _++_, map, append-assoc}
+use lib.ListN.{length-map, length, getD, drop, replicate, length-replicate}
 use lib.Seq.{drop-append-le}
 use borrow.Author.Tests.{le-leb, lt-leb}
 use Rattle.paper.specs.Table.{elementIn, padded}
 use Rattle.paper.specs.Overlap.{witnessLeft}
 use Rattle.meeting.specs.Best.{firstIn, bestFrom, bestStack, fits}
-use Rattle.meeting.specs.Cells.{elementsOf, stackAt, Filled}
+use Rattle.meeting.specs.Cells.{stackAt, Filled}
 use Rattle.meeting.proofs.Order.{bestFrom-short}
-use Rattle.meeting.proofs.Elements.{length-elements}
 use Rattle.meeting.proofs.Chains.{stack-length}
 
 pub zeros-below : (n k : ℕ) → getD (replicate n 0) k 0 < 289
@@ -33,16 +32,16 @@ over-zeros S old mid new n e h f g =
     g ∙ rw (f, drop-append-le n (replicate 32 0) (drop 32 old) (rw length-replicate h), drop-zeros 32 n, e, append-assoc)
 
 module _ (F : List ℕ) (d low : ℕ) (P Q L H N : List ℕ) (filled : Filled F d low P Q L H N 0) where
-  best : stackAt H N 0 (getD L 0 0) ≡ bestFrom F d low (elementsOf P) (elementsOf Q)
+  best : stackAt H N 0 (getD L 0 0) ≡ bestFrom F d low (map elementIn P) (map elementIn Q)
   best = filled .right 0 (omega arith) (omega arith)
 
   at-most : length P ≤ 16 → length Q ≤ 16 → getD L 0 0 ≤ 32
   at-most hp hq =
       let s = ap length best in
       let n = stack-length H N 0 (getD L 0 0) in
-      let b = bestFrom-short F d low (elementsOf P) (elementsOf Q) in
-      let u = length-elements P in
-      let v = length-elements Q in
+      let b = bestFrom-short F d low (map elementIn P) (map elementIn Q) in
+      let u = length-map P elementIn in
+      let v = length-map Q elementIn in
       omega arith
 
   pub frames-fit : (old mid : List ℕ) → length P ≤ 16 → length Q ≤ 16 → 32 ≤ length old → length mid ≡ length old → getD L 0 0 ≤ length mid
@@ -50,7 +49,7 @@ module _ (F : List ℕ) (d low : ℕ) (P Q L H N : List ℕ) (filled : Filled F 
 
   module _ (lowest : low ≡ firstIn F d) where
     best-found : stackAt H N 0 (getD L 0 0) ≡ bestStack F d (map elementIn P) (map elementIn Q)
-    unfolding bestStack elementsOf
+    unfolding bestStack
     best-found = rw (← lowest) best
 
     pub frames-counted : getD L 0 0 ≡ length (bestStack F d (map elementIn P) (map elementIn Q))

@@ -1,10 +1,10 @@
 -- A loop that writes a list S over the front of O, one store a turn; and S as a chain of cells.
-use Prim.Native.Nat.{ℕ, zero, suc, _+_, _-_, _<_, _≤_}
+use Prim.Native.Nat.{ℕ, suc, _+_, _-_, _<_, _≤_}
 use native.Mathlib.Omega.{arith}
 use native.Mathlib.Numerals.{add-one}
 use native.Mathlib.Nat.{sub-zero}
-use mathlib.Core.Path.{_≡_, refl, sym, ap, subst, _∙_}
-use mathlib.Core.List.{List, [], _∷_, _++_}
+use mathlib.Core.Path.{_≡_, sym, ap, _∙_}
+use mathlib.Core.List.{List, _∷_, _++_}
 use lib.ListN.{length, getD, take, drop, set, replicate, length-replicate, getD-replicate}
 use lib.Seq.{drop-cons, take-suc, append-snoc, set-at, length-take-le, take-all}
 use Rattle.meeting.specs.Cells.{stackAt}

@@ -34,16 +34,16 @@ push false f [] = []
 push false f (x ∷ rest) = f ∷ x ∷ rest
 
 -- the best stack of `a ∷ P` and `b ∷ Q`, of those of P and Q (both), of P and `b ∷ Q` (one), of `a ∷ P` and Q (other).
--- endP, endQ: P, Q matches the empty stack. low: the best stack of one frame that passes the test
-unfoldable pub step : (List ℕ → List ℕ → Bool) → (ℕ → Bool) → List ℕ → Element → Element → Bool → Bool → List ℕ → List ℕ → List ℕ → List ℕ
-step order test low all all endP endQ both one other = better order (better order one other) (cond (endP && endQ) low [])
-step order test low all (fn g) endP endQ both one other = better order one (push (test g && (endP && endQ)) g other)
-step order test low (fn f) all endP endQ both one other = better order other (push (test f && (endP && endQ)) f one)
-step order test low (fn f) (fn g) endP endQ both one other = cond (eqb f g) (push (test f && (endP && endQ)) f both) []
+-- last: P and Q match the empty stack. low: the best stack of one frame that passes the test
+unfoldable pub step : (List ℕ → List ℕ → Bool) → (ℕ → Bool) → List ℕ → Element → Element → Bool → List ℕ → List ℕ → List ℕ → List ℕ
+step order test low all all last both one other = better order (better order one other) (cond last low [])
+step order test low all (fn g) last both one other = better order one (push (test g && last) g other)
+step order test low (fn f) all last both one other = better order other (push (test f && last) f one)
+step order test low (fn f) (fn g) last both one other = cond (eqb f g) (push (test f && last) f both) []
 
 unfoldable pub row : (List ℕ → List ℕ → Bool) → (ℕ → Bool) → List ℕ → Element → Bool → (List Element → List ℕ) → List Element → List ℕ
 row order test low a endP below [] = []
-row order test low a endP below (b ∷ Q) = step order test low a b endP (matches Q []) (below Q) (below (b ∷ Q)) (row order test low a endP below Q)
+row order test low a endP below (b ∷ Q) = step order test low a b (endP && matches Q []) (below Q) (below (b ∷ Q)) (row order test low a endP below Q)
 
 unfoldable pub bestBy : (List ℕ → List ℕ → Bool) → (ℕ → Bool) → List ℕ → List Element → List Element → List ℕ
 bestBy order test low [] Q = []

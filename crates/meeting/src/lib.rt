@@ -8,21 +8,31 @@ ghost use lib.ListN.{length, drop, getD, replicate};
 ghost use Rattle.paper.specs.Match.{matches};
 ghost use Rattle.paper.specs.Table.{elementIn};
 ghost use Rattle.paper.specs.Overlap.{witnessLeft};
-ghost use Rattle.meeting.specs.Best.{inDomain, lowerOrSame, comesFirst, better, push, firstIn, alone, bestFrom, bestStack, fits};
-ghost use Rattle.meeting.specs.Cells.{elementsOf, stackAt, stackOf, Filled};
+ghost use Rattle.meeting.specs.Best.{inDomain, lowerOrSame, comesFirst, better, push, step, firstIn, alone, bestFrom, bestStack, fits};
+ghost use Rattle.meeting.specs.Cells.{EndsFrom, stackAt, stackOf, After, Filled};
 
-// The pattern from place i on matches the empty stack.
-fn ends(p: &[u16], i: usize) -> bool
-    ensures { λ r. ⌜ r ≡ matches (elementsOf (drop i (now (p .entry)))) [] ⌝ }
+// The place from which on a pattern matches the empty stack.
+fn end_of(p: &[u16]) -> usize
+    ensures { λ r. ⌜ EndsFrom (now (p .entry)) r ⌝ }
 {
-    let mut k = i;
-    while k < p.len() {
-        if p[k] != 0 {
-            return false;
+    let mut k = p.len();
+    while 0 < k {
+        if p[k - 1] != 0 {
+            return k;
         }
-        k += 1;
+        k -= 1;
     }
-    true
+    k
+}
+
+// Nothing of the patterns past cell k has to come.
+fn ends_at(one: usize, other: usize, k: usize) -> bool
+    requires { ⌜ k < 289 ⌝ }
+    ensures { λ r. ⌜ r ≡ (leb one (k / 17 + 1) && leb other (k % 17 + 1)) ⌝ }
+{
+    let i = k / 17 + 1;
+    let j = k % 17 + 1;
+    if one <= i { other <= j } else { false }
 }
 
 // Function f lies in domain d.
@@ -37,12 +47,12 @@ fn lies_in(functions: &[u16], d: u16, f: u16) -> bool
     }
 }
 
-// Function f may be the top, with nothing of the patterns from places i and j on to come.
-fn may_be_top(p: &[u16], i: usize, q: &[u16], j: usize, functions: &[u16], d: u16, f: u16) -> bool
-    ensures { λ r. ⌜ r ≡ (inDomain (now (functions .entry)) d f && (matches (elementsOf (drop i (now (p .entry)))) [] && matches (elementsOf (drop j (now (q .entry)))) [])) ⌝ }
+// Function f may be the top.
+fn may_be_top(functions: &[u16], d: u16, f: u16, last: bool) -> bool
+    ensures { λ r. ⌜ r ≡ (inDomain (now (functions .entry)) d f && last) ⌝ }
 {
     if lies_in(functions, d, f) {
-        if ends(p, i) { ends(q, j) } else { false }
+        last
     } else {
         false
     }
@@ -162,22 +172,19 @@ fn load(len: &[usize; 289], head: &[u16; 289], next: &[usize; 289], c: usize) ->
     }
 }
 
-// The function low alone, where nothing of the patterns from places i and j on has to come.
-fn low_alone(p: &[u16], i: usize, q: &[u16], j: usize, functions: &[u16], low: usize) -> Chain
+// The function low alone, where it may be the last.
+fn low_alone(functions: &[u16], low: usize, last: bool) -> Chain
     requires { ⌜ length (now functions) ≤ 1024 ⌝ }
-    ensures { λ r. ⌜ ((H N : List ℕ) → stackOf H N (r .len) (r .head) (r .next)
-        ≡ cond (matches (elementsOf (drop i (now (p .entry)))) [] && matches (elementsOf (drop j (now (q .entry)))) []) (alone (now (functions .entry)) low) []) ⌝ }
+    ensures { λ r. ⌜ ((H N : List ℕ) → stackOf H N (r .len) (r .head) (r .next) ≡ cond last (alone (now (functions .entry)) low) []) ⌝ }
     ensures { λ r. ⌜ r .next ≡ 288 ⌝ }
 {
-    if ends(p, i) {
-        if ends(q, j) {
-            if low < functions.len() {
-                return Chain {
-                    len: 1,
-                    head: low as u16,
-                    next: 288,
-                };
-            }
+    if last {
+        if low < functions.len() {
+            return Chain {
+                len: 1,
+                head: low as u16,
+                next: 288,
+            };
         }
     }
     Chain {
@@ -245,6 +252,45 @@ fn both_all(
     pick(head, next, z, low)
 }
 
+// The best stack where elements a and b stand first, from those of cells k + 18, k + 17 and k + 1.
+fn elements(
+    a: u16,
+    b: u16,
+    k: usize,
+    functions: &[u16],
+    d: u16,
+    low: usize,
+    last: bool,
+    len: &[usize; 289],
+    head: &[u16; 289],
+    next: &[usize; 289],
+) -> Chain
+    requires { ⌜ After (now len) (now next) k × (length (now functions) ≤ 1024) ⌝ }
+    ensures { λ r. ⌜ stackOf (now (head .entry)) (now (next .entry)) (r .len) (r .head) (r .next)
+        ≡ step comesFirst (inDomain (now (functions .entry)) d) (alone (now (functions .entry)) low) (elementIn a) (elementIn b) last
+        (stackAt (now (head .entry)) (now (next .entry)) (k + 18) (getD (now (len .entry)) (k + 18) 0))
+        (stackAt (now (head .entry)) (now (next .entry)) (k + 17) (getD (now (len .entry)) (k + 17) 0))
+        (stackAt (now (head .entry)) (now (next .entry)) (k + 1) (getD (now (len .entry)) (k + 1) 0)) ⌝ }
+    ensures { λ r. ⌜ (k ≤ r .next) × (r .next < 289) × ((r .len ≡ 0 → ⊥) → k < r .next) ⌝ }
+{
+    if a == 0 {
+        if b == 0 {
+            let frame = low_alone(functions, low, last);
+            return both_all(len, head, next, frame, k + 17, k + 1);
+        }
+        let lone = may_be_top(functions, d, b - 1, last);
+        return beside_all(len, head, next, lone, b - 1, k + 17, k + 1);
+    }
+    let lone = may_be_top(functions, d, a - 1, last);
+    if b == 0 {
+        return beside_all(len, head, next, lone, a - 1, k + 1, k + 17);
+    }
+    if a == b {
+        return put(len, lone, a - 1, k + 18);
+    }
+    nothing(k)
+}
+
 // The best stack of cell k, from the cells after it.
 fn cell(
     p: &[u16],
@@ -253,14 +299,16 @@ fn cell(
     functions: &[u16],
     d: u16,
     low: usize,
+    last: bool,
     len: &[usize; 289],
     head: &[u16; 289],
     next: &[usize; 289],
 ) -> Chain
     requires { ⌜ (length (now p) ≤ 16) × (length (now q) ≤ 16) × (length (now functions) ≤ 1024) × (k < 289) ⌝ }
+    requires { ⌜ last ≡ (matches (map elementIn (drop (k / 17 + 1) (now p))) [] && matches (map elementIn (drop (k % 17 + 1) (now q))) []) ⌝ }
     requires { ⌜ Filled (now functions) d low (now p) (now q) (now len) (now head) (now next) (k + 1) ⌝ }
     ensures { λ r. ⌜ stackOf (now (head .entry)) (now (next .entry)) (r .len) (r .head) (r .next)
-        ≡ bestFrom (now (functions .entry)) d low (elementsOf (drop (k / 17) (now (p .entry)))) (elementsOf (drop (k % 17) (now (q .entry)))) ⌝ }
+        ≡ bestFrom (now (functions .entry)) d low (map elementIn (drop (k / 17) (now (p .entry)))) (map elementIn (drop (k % 17) (now (q .entry)))) ⌝ }
     ensures { λ r. ⌜ (k ≤ r .next) × (r .next < 289) × ((r .len ≡ 0 → ⊥) → k < r .next) ⌝ }
 {
     let i = k / 17;
@@ -271,24 +319,7 @@ fn cell(
     if q.len() <= j {
         return nothing(k);
     }
-    let a = p[i];
-    let b = q[j];
-    if a == 0 {
-        if b == 0 {
-            let frame = low_alone(p, i + 1, q, j + 1, functions, low);
-            return both_all(len, head, next, frame, k + 17, k + 1);
-        }
-        let lone = may_be_top(p, i + 1, q, j + 1, functions, d, b - 1);
-        return beside_all(len, head, next, lone, b - 1, k + 17, k + 1);
-    }
-    let lone = may_be_top(p, i + 1, q, j + 1, functions, d, a - 1);
-    if b == 0 {
-        return beside_all(len, head, next, lone, a - 1, k + 1, k + 17);
-    }
-    if a == b {
-        return put(len, lone, a - 1, k + 18);
-    }
-    nothing(k)
+    elements(p[i], q[j], k, functions, d, low, last, len, head, next)
 }
 
 // Every cell, the last first.
@@ -307,10 +338,13 @@ fn fill(
     requires { ⌜ ((c : ℕ) → getD (now next) c 0 < 289) ⌝ }
     ensures { λ _. ⌜ Filled (now (functions .entry)) d low (now (p .entry)) (now (q .entry)) (now (len .exit)) (now (head .exit)) (now (next .exit)) 0 ⌝ }
 {
+    let one = end_of(p);
+    let other = end_of(q);
     let mut k: usize = 289;
     while 0 < k {
         k -= 1;
-        let r = cell(p, q, k, functions, d, low, len, head, next);
+        let last = ends_at(one, other, k);
+        let r = cell(p, q, k, functions, d, low, last, len, head, next);
         len[k] = r.len;
         head[k] = r.head;
         next[k] = r.next;

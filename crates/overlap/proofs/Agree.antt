@@ -1,21 +1,19 @@
 -- Any two answers that meet the promise agree in everything but the stack; and in the stack too, where no other comes before it.
-use Prim.Native.Nat.{ℕ, zero, suc, _+_, _-_, _<_, _≤_}
+use Prim.Native.Nat.{ℕ, zero, suc, _-_, _≤_}
 use native.Mathlib.Omega.{arith}
 use native.Mathlib.Nat.{eq-or-lt-of-le}
 use mathlib.Core.Logic.{_⊎_, inl, inr, ⊎-elim}
-use mathlib.Core.Path.{_≡_, refl, sym, ap, subst, subst₂, _∙_}
-use mathlib.Core.List.{List, [], _∷_, _++_}
+use mathlib.Core.Path.{_≡_, refl, sym, ap, _∙_}
+use mathlib.Core.List.{List}
 use lib.ListN.{length, take, drop, length-append, length-take}
 use lib.Seq.{drop-at, length-take-le}
 use Rattle.paper.specs.declared.Report.{Report}
 use Rattle.paper.specs.declared.Report.the-variants.{Clear, Clash, Unreported}
 use Rattle.paper.specs.Policy.{Policy}
 use Rattle.paper.specs.Table.{padded, policyIn}
-use Rattle.paper.specs.Match.{Moment}
-use Rattle.paper.specs.Overlap.{BothMatch, PairBefore, FirstClash, Says, entryOfPolicy, witnessUid, witnessLeft}
+use Rattle.paper.specs.Overlap.{PairBefore, FirstClash, Says, witnessLeft}
 use Rattle.paper.specs.Promises.{reportRefusal, ReportedUnless, Reported}
 use Rattle.laws.proofs.Stretches.{length-padded}
-use Rattle.meeting.specs.Best.{NotAfter}
 use Rattle.meeting.proofs.Order.{le-or-lt, after-anti}
 use Rattle.overlap.specs.Told.{Least}
 use Rattle.overlap.specs.Agree.{AgreeButStack}

@@ -1,15 +1,15 @@
 -- Two entries match a moment exactly where `clashStack` finds a stack, and none comes before it.
-use Prim.Native.Nat.{ℕ, zero, suc, _+_, _-_, _<_, _≤_}
+use Prim.Native.Nat.{ℕ, suc, _+_, _-_, _≤_}
 use native.Mathlib.Omega.{arith}
 use native.Mathlib.Numerals.{sub-one}
-use mathlib.Core.Path.{_≡_, refl, sym, ap, subst, _∙_}
-use mathlib.Core.Bool.{Bool, true, false, cond, not, _&&_, _||_, false≢true}
+use mathlib.Core.Path.{_≡_, refl, sym, ap, _∙_}
+use mathlib.Core.Bool.{Bool, true, false, cond, _||_, false≢true}
 use mathlib.Core.List.{List, [], _∷_}
-use lib.Dec.{eqb, ltb, eqb·suc-zero}
+use lib.Dec.{eqb, eqb·suc-zero}
 use lib.ListN.{length, getD}
 use borrow.Author.Tests.{eqb-true, eq-eqb}
 use Rattle.paper.specs.Scalars.{Sort, anyone, variable, root, user}
-use Rattle.paper.specs.Policy.{Element, Entry, Policy}
+use Rattle.paper.specs.Policy.{Entry, Policy}
 use Rattle.paper.specs.Match.{Moment, top, topLiesIn, sortFits, matches, entryMatches}
 use Rattle.paper.specs.Overlap.{isUser, witnessUid}
 use Rattle.meeting.specs.Best.{topPasses, Meet, inDomain, bestStack, NotAfter}

@@ -1,15 +1,15 @@
 -- How the pairs that do not clash go on, up to the first that does.
-use Prim.Native.Nat.{ℕ, zero, suc, _+_, _*_, _<_, _≤_}
+use Prim.Native.Nat.{ℕ, _+_, _*_, _<_, _≤_}
 use native.Mathlib.Omega.{arith}
 use native.Mathlib.Nat.{eq-or-lt-of-le}
 use mathlib.Core.Logic.{_⊎_, inl, inr, ⊎-elim}
-use mathlib.Core.Path.{_≡_, refl, sym, ap, subst, subst₂, _∙_}
-use mathlib.Core.Bool.{Bool, true, false}
+use mathlib.Core.Path.{_≡_, refl, sym, subst₂, _∙_}
+use mathlib.Core.Bool.{true}
 use mathlib.Core.List.{List, [], _∷_, _++_, map}
 use lib.ListN.{length, getD, take, drop, replicate, length-take, length-map}
 use lib.Seq.{drop-at}
 use Rattle.paper.specs.declared.Report.{Report}
-use Rattle.paper.specs.declared.Report.the-variants.{Clear, Clash, Unreported}
+use Rattle.paper.specs.declared.Report.the-variants.{Clash}
 use Rattle.paper.specs.Table.{padded, elementIn, contextIn, entryIn, policyIn, entryCount, wellFormed}
 use Rattle.paper.specs.Overlap.{witnessUid, witnessLeft}
 use Rattle.meeting.specs.Best.{bestStack}

@@ -1,25 +1,24 @@
 -- From what the loops say to the promise.
-use Prim.Native.Nat.{ℕ, _+_, _<_, _≤_}
+use Prim.Native.Nat.{ℕ, _<_, _≤_}
 use native.Mathlib.Omega.{arith}
-use mathlib.Core.Path.{_≡_, refl, sym, ap, subst, _∙_}
-use mathlib.Core.Bool.{Bool, true, false, cond, not}
-use mathlib.Core.List.{List, [], _∷_, _++_, append-assoc}
+use mathlib.Core.Path.{_≡_, refl, sym, _∙_}
+use mathlib.Core.Bool.{Bool, true, false, not}
+use mathlib.Core.List.{List, [], _∷_, append-assoc}
 use mathlib.Core.Logic.{inl}
-use lib.Dec.{ltb}
-use lib.ListN.{length, take, drop}
+use lib.ListN.{length, take}
 use lib.Seq.{take-at}
 use borrow.Author.Tests.{lt-ltb, le-ltb}
 use Rattle.paper.specs.declared.Report.{Report}
 use Rattle.paper.specs.declared.Report.the-variants.{Clear, Clash, Unreported}
 use Rattle.paper.specs.Policy.{Policy}
 use Rattle.paper.specs.Table.{padded, entryIn, policyIn, entryCount, wellFormed}
-use Rattle.paper.specs.Match.{Moment, entryMatches}
+use Rattle.paper.specs.Match.{Moment}
 use Rattle.paper.specs.Overlap.{BothMatch, NeverBoth, FirstClash, Says, entryOfPolicy, witnessUid, witnessLeft}
-use Rattle.paper.specs.Promises.{reportRefusal, ReportedUnless, Reported}
+use Rattle.paper.specs.Promises.{reportRefusal, Reported}
 use Rattle.laws.proofs.Chains.{told-no, told-yes}
 use Rattle.meeting.specs.Best.{NotAfter}
 use Rattle.meeting.proofs.Best.{Some}
-use Rattle.overlap.specs.Clash.{clashStack, pairStack, tableStack}
+use Rattle.overlap.specs.Clash.{pairStack, tableStack}
 use Rattle.overlap.specs.Told.{NoneBefore, Clashing, Told, Least}
 use Rattle.overlap.proofs.Clash.{clash-sound, clash-least}
 use Rattle.overlap.proofs.Words.{entry-read, entries-counted, gid-free, pair-read}

@@ -1,5 +1,5 @@
 -- The trials of document 01 that are of a file and its events, or of two entries, and those that it marks "run only" and definitions can show.
-use Prim.Native.Nat.{ℕ, _+_}
+use Prim.Native.Nat.{ℕ}
 use mathlib.Core.Path.{_≡_, refl}
 use mathlib.Core.Bool.{Bool, true}
 use mathlib.Core.List.{List, [], _∷_, map}

@@ -1,17 +1,16 @@
 -- The report of a policy with two entries, from their stack.
-use Prim.Native.Nat.{ℕ, zero, suc, _<_, _≤_}
+use Prim.Native.Nat.{ℕ, _<_, _≤_}
 use native.Mathlib.Omega.{arith}
 use mathlib.Core.Logic.{_⊎_, inl, inr}
-use mathlib.Core.Path.{_≡_, refl, sym, subst₂, _∙_}
-use mathlib.Core.Bool.{Bool, true, false}
+use mathlib.Core.Path.{_≡_, refl, subst₂}
+use mathlib.Core.Bool.{true}
 use mathlib.Core.List.{List, [], _∷_}
 use lib.ListN.{length, take}
-use Rattle.paper.specs.declared.Report.{Report}
 use Rattle.paper.specs.declared.Report.the-variants.{Clear, Clash}
 use Rattle.paper.specs.Policy.{Policy}
-use Rattle.paper.specs.Match.{Moment, sortFits}
-use Rattle.paper.specs.Overlap.{BothMatch, NeverBoth, FirstClash, Says, entryOfPolicy, witnessUid, witnessLeft}
-use Rattle.overlap.specs.Clash.{clashStack, pairStack}
+use Rattle.paper.specs.Match.{sortFits}
+use Rattle.paper.specs.Overlap.{BothMatch, NeverBoth, Says, entryOfPolicy, witnessUid, witnessLeft}
+use Rattle.overlap.specs.Clash.{pairStack}
 use Rattle.overlap.proofs.Clash.{clash-sound}
 use Rattle.overlap.proofs.Reporting.{no-stack-no-clash, take-left}
 

@@ -2,17 +2,13 @@
 use Prim.Native.Nat.{ℕ, zero, suc, _+_, _*_, _<_, _≤_}
 use native.Mathlib.Omega.{arith}
 use native.Mathlib.Nat.{zero-add}
-use mathlib.Core.Path.{_≡_, refl, sym, ap, _∙_}
-use mathlib.Core.Bool.{Bool, true, false, cond, _||_}
+use mathlib.Core.Path.{_≡_, refl, sym, _∙_}
+use mathlib.Core.Bool.{Bool, true, false, cond}
 use mathlib.Core.List.{List, [], _++_, map}
 use lib.Dec.{eqb, ltb, leb}
-use lib.ListN.{length, getD, take, drop, replicate, length-take, length-map}
-use lib.Seq.{drop-at}
-use borrow.Author.Tests.{eqb-true, eq-eqb, ne-eqb, leb-true, ltb-true, le-leb, lt-leb}
-use Rattle.paper.specs.Common.{within}
-use Rattle.paper.specs.Scalars.{Sort, anyone, variable, root, user}
-use Rattle.paper.specs.Policy.{Entry, Policy}
-use Rattle.paper.specs.Table.{padded, elementIn, sortIn, contextIn, entryIn, policyIn, contextFits, entryAt, entryCount, functionCount, wellFormed}
+use lib.ListN.{length, getD, take, drop, replicate, length-take}
+use borrow.Author.Tests.{eq-eqb, ne-eqb, leb-true, ltb-true, le-leb, lt-leb}
+use Rattle.paper.specs.Table.{padded, elementIn, sortIn, contextIn, entryIn, policyIn, contextFits, entryAt, entryCount, wellFormed}
 use Rattle.paper.specs.Match.{sortFits}
 use Rattle.paper.specs.Overlap.{isUser, entryOfPolicy, witnessUid, witnessLeft}
 use Rattle.laws.proofs.Tests.{both-left, both-right}

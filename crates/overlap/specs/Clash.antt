@@ -1,12 +1,12 @@
 -- Where two entries of a table clash.
-use Prim.Native.Nat.{ℕ, _+_}
+use Prim.Native.Nat.{ℕ}
 use mathlib.Core.Bool.{Bool, true, false, cond}
 use mathlib.Core.List.{List, []}
 use lib.Dec.{eqb}
 use lib.ListN.{take, drop}
 use Rattle.paper.specs.Scalars.{Sort, anyone, variable, root, user}
 use Rattle.paper.specs.Policy.{Entry, Policy}
-use Rattle.paper.specs.Table.{functionsAt, functionCount, entryIn, policyIn}
+use Rattle.paper.specs.Table.{functionsAt, functionCount, entryIn}
 use Rattle.paper.specs.Overlap.{isUser, entryOfPolicy}
 use Rattle.meeting.specs.Best.{bestStack}
 

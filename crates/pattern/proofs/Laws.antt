@@ -1,38 +1,20 @@
 -- What each step of the code shows, of places in a pattern and a stack.
-use Prim.Native.Nat.{ℕ, zero, suc, _+_, _-_, _<_, _≤_}
+use Prim.Native.Nat.{ℕ, _+_, _-_, _<_, _≤_}
 use native.Mathlib.Omega.{arith}
-use mathlib.Core.Path.{_≡_, refl, sym, ap, _∙_}
+use mathlib.Core.Path.{_≡_, refl, sym, _∙_}
 use mathlib.Core.Bool.{Bool, true, false}
-use mathlib.Core.List.{List, [], _∷_, map}
+use mathlib.Core.List.{List, map}
 use lib.ListN.{length, drop, getD, drop-of-length-le}
 use borrow.Author.Tests.{eq-eqb, ne-eqb}
 use Rattle.paper.specs.Common.{allOf}
-use Rattle.paper.specs.Policy.{all, fn}
 use Rattle.paper.specs.Table.{elementIn}
 use Rattle.paper.specs.Match.{swallowing, firstEquals, matches, isAll}
 use Rattle.laws.proofs.Places.{drop-more}
+use Rattle.laws.proofs.Elements.{at-all, at-fn, at-end}
 use Rattle.pattern.specs.Run.{here, later, FitsToAll, Says}
 use Rattle.pattern.specs.declared.Run.{Run}
 use Rattle.pattern.specs.declared.Run.the-variants.{Match, Fail, Never, All}
 use Rattle.pattern.proofs.Lists.{empty-refuses, all-takes, all-refuses, all-swallows, all-alone, all-twice, fn-refuses, fn-at-end}
-
--- ---- the element at a place
-
-word-fn : (w : ℕ) → (w ≡ 0 → ⊥) → elementIn w ≡ fn (w - 1)
-unfolding elementIn
-word-fn zero n = absurd (n refl)
-word-fn (suc f) n = ap fn (omega arith)
-
-module _ (p : List ℕ) (i : ℕ) where
-  at-all : i < length p → getD p i 0 ≡ 0 → map elementIn (drop i p) ≡ all ∷ map elementIn (drop (i + 1) p)
-  unfolding elementIn
-  at-all h e = rw (drop-more p i h, e)
-
-  at-fn : i < length p → (getD p i 0 ≡ 0 → ⊥) → map elementIn (drop i p) ≡ fn (getD p i 0 - 1) ∷ map elementIn (drop (i + 1) p)
-  at-fn h n = rw (drop-more p i h, word-fn (getD p i 0) n)
-
-  at-end : length p ≤ i → map elementIn (drop i p) ≡ []
-  at-end h = rw (drop-of-length-le p h)
 
 -- ---- a run up to an `all`
 

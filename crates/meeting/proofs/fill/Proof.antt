@@ -3,15 +3,22 @@ use borrow.Author.Needs.{needs}
 use lib.ListN.{length}
 use mathlib.Core.Path.{_≡_}
 use Rattle.meeting.proofs.Cells.{none-filled, before-cell, all-filled, cell-filled}
+use Rattle.meeting.proofs.Ends.{last-told}
 use Rattle.meeting.specs.Cells.{Filled}
 use Rattle.meeting.proofs.fill.Statement.{statement}
 use Rattle.meeting.proofs.fill.Tie as tie
 
 abbrev Inv-loop : tie.InvT-loop
-Inv-loop p q functions d low len₀ head₀ next₀ k₀ len head next k = (k ≤ 289) × (length len ≡ 289) × (length head ≡ 289) × (length next ≡ 289) × Filled functions d low p q len head next k
+Inv-loop p q functions d low len₀ head₀ next₀ one other k₀ len head next k = (k ≤ 289) × (length len ≡ 289) × (length head ≡ 289) × (length next ≡ 289) × Filled functions d low p q len head next k
 
 abbrev μ-loop : tie.MeasureT-loop
-μ-loop p q functions d low len₀ head₀ next₀ k₀ len head next k = k
+μ-loop p q functions d low len₀ head₀ next₀ one other k₀ len head next k = k
+
+end-of-requires : tie.Need-end-of-requires Inv-loop μ-loop
+end-of-requires c κs = search needs
+
+end-of-requires-2 : tie.Need-end-of-requires-2 Inv-loop μ-loop
+end-of-requires-2 c κs = search needs
 
 loop-holds : tie.Need-loop-holds Inv-loop μ-loop
 loop-holds c = search (needs, none-filled)
@@ -19,8 +26,11 @@ loop-holds c = search (needs, none-filled)
 sub-k : tie.Need-sub-k Inv-loop μ-loop
 sub-k c = search needs
 
+ends-at-requires : tie.Need-ends-at-requires Inv-loop μ-loop
+ends-at-requires c κs = search needs
+
 cell-requires : tie.Need-cell-requires Inv-loop μ-loop
-cell-requires c κs = search (needs, before-cell)
+cell-requires c κs = (search needs, (search (needs, last-told), search (needs, before-cell)))
 
 mul-len : tie.Need-mul-len Inv-loop μ-loop
 mul-len c = search needs
@@ -55,8 +65,11 @@ fill-spec =
     (tie.spec
     Inv-loop
     μ-loop
+    end-of-requires
+    end-of-requires-2
     loop-holds
     sub-k
+    ends-at-requires
     cell-requires
     mul-len
     element-write-len

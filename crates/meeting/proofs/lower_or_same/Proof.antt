@@ -1,7 +1,7 @@
-use Prim.Native.Nat.{_-_, _<_, _≤_}
+use Prim.Native.Nat.{_-_, _<_}
 use borrow.Author.Needs.{needs}
 use mathlib.Core.Path.{_≡_}
-use Rattle.meeting.proofs.Chains.{lex-none, lex-below, lex-above, lex-same}
+use Rattle.meeting.proofs.Chains.{frames-end, frame-below, frame-above, frame-same}
 use Rattle.meeting.specs.Best.{lowerOrSame}
 use Rattle.meeting.specs.Cells.{stackAt}
 use Rattle.meeting.proofs.lower_or_same.Statement.{statement}
@@ -29,7 +29,7 @@ element-copy-out-if1-2 : tie.Need-element-copy-out-if1-2 Inv-loop μ-loop
 element-copy-out-if1-2 c = search needs
 
 returns : tie.Need-returns Inv-loop μ-loop
-returns c = search (needs, lex-below)
+returns c = search (needs, frame-below)
 
 mul-if2 : tie.Need-mul-if2 Inv-loop μ-loop
 mul-if2 c = search needs
@@ -44,7 +44,7 @@ element-copy-out-if2-2 : tie.Need-element-copy-out-if2-2 Inv-loop μ-loop
 element-copy-out-if2-2 c = search needs
 
 returns-2 : tie.Need-returns-2 Inv-loop μ-loop
-returns-2 c = search (needs, lex-above)
+returns-2 c = search (needs, frame-above)
 
 mul-c : tie.Need-mul-c Inv-loop μ-loop
 mul-c c = search needs
@@ -65,10 +65,10 @@ loop-less : tie.Need-loop-less Inv-loop μ-loop
 loop-less c = search needs
 
 loop-again : tie.Need-loop-again Inv-loop μ-loop
-loop-again c = search (needs, lex-same, c .before .before .before .before .before .before .before .before .before .before .pre .1)
+loop-again c = search (needs, frame-same, c .before .before .before .before .before .before .before .before .before .before .pre .1)
 
 returns-3 : tie.Need-returns-3 Inv-loop μ-loop
-returns-3 c = search (needs, lex-none)
+returns-3 c = search (needs, frames-end)
 
 pub lower-or-same-spec : {M : Type 1} → statement M
 lower-or-same-spec =

@@ -1,0 +1,90 @@
+-- A pattern from a place on against the empty stack.
+use Prim.Native.Nat.{ℕ, zero, suc, _+_, _-_, _<_, _≤_}
+use native.Mathlib.Omega.{arith}
+use native.Mathlib.Nat.{add-zero, eq-or-lt-of-le}
+use mathlib.Core.Logic.{_⊎_, inl, inr, ⊎-elim}
+use mathlib.Core.Path.{_≡_, refl, sym, _∙_}
+use mathlib.Core.Bool.{Bool, true, false, _&&_, false≢true}
+use mathlib.Core.List.{List, [], map}
+use lib.Dec.{eqb, leb}
+use lib.ListN.{length, drop, getD}
+use borrow.Author.Tests.{eqb-true, eqb-false, le-leb, lt-leb}
+use Rattle.paper.specs.Table.{elementIn}
+use Rattle.paper.specs.Match.{swallowing, firstEquals, matches}
+use Rattle.laws.proofs.Elements.{at-all, at-fn, at-end}
+use Rattle.meeting.specs.Cells.{EndsFrom}
+use Rattle.meeting.proofs.Order.{le-or-lt}
+
+lt-or-le : (a b : ℕ) → (a < b) ⊎ (b ≤ a)
+lt-or-le a b = ⊎-elim (λ h. inr h) (λ h. inl h) (le-or-lt b a)
+
+module _ (p : List ℕ) (i : ℕ) where
+  -- the pattern from place i on matches the empty stack
+  abbrev pub ends : Bool
+  ends = matches (map elementIn (drop i p)) []
+
+  pub ends-at-end : length p ≤ i → ends ≡ true
+  unfolding matches
+  ends-at-end h = rw (at-end p i h)
+
+  pub ends-past-all : i < length p → getD p i 0 ≡ 0 → ends ≡ matches (map elementIn (drop (i + 1) p)) []
+  unfolding matches swallowing
+  ends-past-all h e = rw (at-all p i h e)
+
+  pub ends-not : i < length p → (getD p i 0 ≡ 0 → ⊥) → ends ≡ false
+  unfolding matches firstEquals
+  ends-not h n = rw (at-fn p i h n)
+
+module _ (p : List ℕ) where
+  ends-next : (i : ℕ) → ends p i ≡ true → ends p (i + 1) ≡ true
+  ends-next i h = ⊎-elim inside (λ l. ends-at-end p (i + 1) (omega arith)) (lt-or-le i (length p))
+    where
+      inside : i < length p → ends p (i + 1) ≡ true
+      inside l = go (eqb (getD p i 0) 0) refl
+        where
+          go : (t : Bool) → eqb (getD p i 0) 0 ≡ t → ends p (i + 1) ≡ true
+          go true e = sym (ends-past-all p i l (eqb-true _ _ e)) ∙ h
+          go false e = absurd (false≢true (sym (ends-not p i l (eqb-false _ _ e)) ∙ h))
+
+  ends-later : (i n : ℕ) → ends p i ≡ true → ends p (i + n) ≡ true
+  ends-later i zero h = rw add-zero h
+  ends-later i (suc n) h = let e : i + suc n ≡ i + n + 1 = omega arith in rw e (ends-next (i + n) (ends-later i n h))
+
+  -- ---- the loop from the end on
+  unfoldable pub EndedFrom : ℕ → Type 0
+  EndedFrom k = (i : ℕ) → k ≤ i → ends p i ≡ true
+
+  pub end-starts : EndedFrom (length p)
+  unfolding EndedFrom
+  end-starts i h = ends-at-end p i h
+
+  module _ (k : ℕ) (so-far : EndedFrom k) where
+    pub end-none : k ≤ 0 → EndsFrom p k
+    unfolding EndedFrom EndsFrom
+    end-none h i = so-far i (omega arith) ∙ sym (le-leb k i (omega arith))
+
+    module _ (l : 0 < k) (m : k ≤ length p) where
+      pub end-again : getD p (k - 1) 0 ≡ 0 → EndedFrom (k - 1)
+      unfolding EndedFrom
+      end-again e i h = ⊎-elim (λ f. rw (← f) (ends-past-all p (k - 1) (omega arith) e ∙ so-far (k - 1 + 1) (omega arith))) (λ g. so-far i (omega arith)) (eq-or-lt-of-le h)
+
+      not-before : (getD p (k - 1) 0 ≡ 0 → ⊥) → (i : ℕ) → i < k → (t : Bool) → ends p i ≡ t → t ≡ false
+      not-before n i h true e =
+          let f : i + (k - 1 - i) ≡ k - 1 = omega arith in
+          sym (rw f at (ends-later i (k - 1 - i) e)) ∙ ends-not p (k - 1) (omega arith) n
+      not-before n i h false e = refl
+
+      pub end-found : (getD p (k - 1) 0 ≡ 0 → ⊥) → EndsFrom p k
+      unfolding EndedFrom EndsFrom
+      end-found n i = ⊎-elim (λ h. not-before n i h (ends p i) refl ∙ sym (lt-leb k i h)) (λ h. so-far i h ∙ sym (le-leb k i h)) (lt-or-le i k)
+
+-- ---- a cell
+pub last-told : (P Q : List ℕ) (x y i j : ℕ) (t : Bool) → EndsFrom P x → EndsFrom Q y → t ≡ (leb x i && leb y j) → t ≡ (matches (map elementIn (drop i P)) [] && matches (map elementIn (drop j Q)) [])
+unfolding EndsFrom
+last-told P Q x y i j t f g h = rw (f i, g j) h
+
+pub ends-other : (x y i j : ℕ) → x ≤ i → leb y j ≡ (leb x i && leb y j)
+ends-other x y i j h = rw (le-leb x i h)
+
+pub ends-neither : (x y i j : ℕ) → i < x → false ≡ (leb x i && leb y j)
+ends-neither x y i j h = rw (lt-leb x i h)
