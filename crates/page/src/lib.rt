@@ -5,12 +5,12 @@ use step::State;
 use step::Step;
 ghost use mathlib.Core.Path.{_≡_};
 ghost use Prim.Native.Nat.{_+_, _≤_};
-ghost use lib.ListN.{drop};
+ghost use lib.ListN.{length, drop};
 ghost use Rattle.paper.specs.Text.{lines};
 ghost use Rattle.paper.specs.Page.{pageFrom, pageOf};
 ghost use Rattle.paper.specs.Promises.{reading};
 ghost use Rattle.step.specs.Steps.{stateOf};
-ghost use Rattle.page.specs.Walk.{lineOf, pageLeft, atStart, pageNext, Within, refusalOf, textPage};
+ghost use Rattle.page.specs.Walk.{lineOf, pageLeft, atStart, pageNext, Within, fieldsOf, refusalOf, textPage};
 
 // Where the walk stands: the place of a byte, the line that begins there, and the state after the lines before it.
 pub struct Cursor {
@@ -138,6 +138,37 @@ pub fn page_refusal(t: &[u8]) -> Refusal
             }
             Next::Fault { number, line } => {
                 return Refusal { number, line };
+            }
+        }
+    }
+}
+
+// How many fields a page has, none where it is refused: the least of the passes over the fields.
+pub fn field_count(t: &[u8]) -> usize
+    ensures { λ r. ⌜ r ≡ length (fieldsOf (pageOf (now (t .entry)))) ⌝ }
+{
+    if page_refusal(t).number != 0 {
+        return 0;
+    }
+    let mut c = start();
+    let mut n: usize = 0;
+    loop {
+        match next_field(t, c) {
+            Next::Field {
+                line: _,
+                place: _,
+                start: _,
+                end: _,
+                after,
+            } => {
+                c = after;
+                n += 1;
+            }
+            Next::End => {
+                return n;
+            }
+            Next::Fault { number: _, line: _ } => {
+                return 0;
             }
         }
     }
