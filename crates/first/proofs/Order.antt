@@ -1,18 +1,18 @@
 -- The fault of a value, and of a line, is the first in the order 4, 9, 5.
-use mathlib.Core.Path.{_≡_, refl, sym, ap, _∙_}
+use mathlib.Core.Path.{_≡_, refl, ap}
 use mathlib.Core.List.{List, [], _∷_}
 use mathlib.Core.Bool.{Bool, true, false, cond, not, _&&_, _||_}
-use Prim.Native.Nat.{ℕ, zero, suc, _+_}
+use Prim.Native.Nat.{ℕ, suc}
 use native.Mathlib.Omega.{arith}
 use lib.Dec.{eqb}
 use lib.ListN.{length, drop}
 use borrow.Author.Tests.{eqb-true}
-use Rattle.paper.specs.Common.{bytes, isEmpty, allOf, same, isOne, anyOf}
+use Rattle.paper.specs.Common.{bytes, isEmpty, allOf, same, isOne}
 use Rattle.paper.specs.Text.{Line, skipped}
 use Rattle.paper.specs.Scalars.{Scalar, isScalar}
-use Rattle.paper.specs.Lists.{bracketed, inside, spaced, elements, elementsIn, listFault}
-use Rattle.paper.specs.Listing.{Value, keys, noneOrItems, allOrKeys, allNoneOrItems, scalar, list, someList, listOrAll, bareIsNone, rowAt, keyAt, atBlock, valueFault}
-use Rattle.paper.specs.Page.{State, Step, pass, stop, needsBlock, placesFor, placeOf, oneSpaceAndValue, fieldStep, bareFault, afterKey, placeStep, unlessEmpty, lineStep}
+use Rattle.paper.specs.Lists.{bracketed, inside, spaced, elements, listFault}
+use Rattle.paper.specs.Listing.{Value, keys, noneOrItems, allOrKeys, allNoneOrItems, scalar, list, someList, listOrAll, bareIsNone, rowAt, atBlock, valueFault}
+use Rattle.paper.specs.Page.{State, stop, needsBlock, oneSpaceAndValue, fieldStep, bareFault, afterKey, placeStep, unlessEmpty, lineStep}
 use Rattle.laws.proofs.Tests.{same-equal}
 use Rattle.first.specs.Order.{inOrder, isList, valueFour, valueNine, valueFive, placeIn, restOf, lineFour, lineNine, lineFive}
 

@@ -1,15 +1,19 @@
 -- What a pass over the fields of an accepted text learns from one step of the walk. A pass keeps `Accepts t c`, and that its answer for
 -- `fieldsLeft t c` gives its answer for all fields; `fieldsLeft` is then opened by `left-more` and `left-none` and nothing else.
 use mathlib.Core.Path.{_≡_, refl, sym, ap, _∙_}
+use mathlib.Core.Bool.{true}
 use mathlib.Core.List.{List, [], _∷_}
 use Prim.Native.Nat.{ℕ, suc, _+_, _*_, _-_, _^_, _<_, _≤_}
 use native.Mathlib.Omega.{arith}
 use mir.Syntax.{w64}
 use mir.Val.{Fits}
 use lib.ListN.{length, take, drop}
-use Rattle.paper.specs.Page as paper
 use Rattle.paper.specs.Page.{Page, fields, fault, andFields, beforeFirst, pageOf}
-use Rattle.page.specs.Walk.{pageLeft, atStart, pageNext, Within, fieldsOf, fieldsLeft, Accepts}
+use Rattle.paper.specs.Text.{lines}
+use Rattle.first.specs.Right.{isRight}
+use Rattle.first.proofs.Right.{first-right}
+use Rattle.step.specs.Steps.{stateOf}
+use Rattle.page.specs.Walk.{lineOf, pageLeft, atStart, pageNext, Within, fieldsOf, fieldsLeft, Accepts}
 use Rattle.page.specs.declared.Cursor.{Cursor}
 use Rattle.page.specs.declared.Next as next
 use Rattle.page.specs.declared.Next.the-variants.{Field, End, Fault}
@@ -61,6 +65,11 @@ module _ (t : List ℕ) (c : Cursor) (r : next.Next) (e : pageLeft t c ≡ pageN
         go : (x : Page) → pageLeft t c ≡ andFields (record { line = n; place = p; value = take (b - a) (drop a t) } ∷ []) x → x ≡ fields (fieldsOf x)
         go (fields gs) f = refl
         go (fault k m) f = absurd (let z : _≡_ {A = ℕ} 0 1 = cc in omega arith)
+
+    -- and the field is right, so that a pass need not test its value again
+    pub left-right : isRight (record { line = n; place = p; value = take (b - a) (drop a t) }) ≡ true
+    unfolding pageLeft
+    left-right = first-right (stateOf (c .state)) (lineOf c) (lines (drop (c .at) t)) _ (fieldsLeft t d) (g ∙ ap fields left-more)
 
 -- ---- where a field's value stands, and that the walk ends
 

@@ -1,16 +1,15 @@
 -- The walk, line by line.
 use mathlib.Core.Path.{_≡_, refl, sym, ap, _∙_}
-use mathlib.Core.Bool.{Bool, true, false, cond, not}
+use mathlib.Core.Bool.{Bool, true, false}
 use mathlib.Core.List.{List, [], _∷_}
 use Prim.Native.Nat.{ℕ, zero, suc, _+_, _*_, _-_, _^_, _<_, _≤_, min}
 use native.Mathlib.Omega.{arith}
 use mir.Syntax.{w64}
 use mir.Val.{Fits}
-use lib.Dec.{ltb}
-use lib.ListN.{length, take, drop, length-take, length-drop, drop-of-length-le}
+use lib.ListN.{length, take, drop, length-take, drop-of-length-le}
 use lib.Seq.{drop-drop, drop-nil, take-nil}
 use borrow.Author.Tests.{lt-ltb, le-ltb}
-use Rattle.paper.specs.Text.{Line, lines, badByteLine}
+use Rattle.paper.specs.Text.{lines, badByteLine}
 use Rattle.paper.specs.Listing.{rowAt}
 use Rattle.paper.specs.Page as paper
 use Rattle.paper.specs.Page.{Page, fields, fault, andFields, after, beforeFirst, needsBlock, lineStep, atEnd, pageFrom, pageOf}
@@ -36,12 +35,6 @@ drop-take zero n xs = let q : n - 0 ≡ n = omega arith in rw q refl
 drop-take (suc a) zero xs = let q : 0 - suc a ≡ 0 = omega arith in rw q (drop-nil (suc a))
 drop-take (suc a) (suc n) [] = sym (take-nil (suc n - suc a))
 drop-take (suc a) (suc n) (x ∷ xs) = let q : suc n - suc a ≡ n - a = omega arith in rw q (drop-take a n xs)
-
-pub line-small : (c : Cursor) → c .line ≤ c .at → c .line ≡ lineOf c
-line-small c h = omega arith
-
-pub line-large : (c : Cursor) → c .at < c .line → c .at + 1 ≡ lineOf c
-line-large c h = omega arith
 
 -- ---- one line of the walk
 

@@ -2,17 +2,16 @@
 use mathlib.Core.Path.{_≡_, refl, sym, ap, _∙_}
 use mathlib.Core.Bool.{Bool, true, false, cond}
 use mathlib.Core.List.{List, [], _∷_}
-use Prim.Native.Nat.{ℕ, zero, suc, _+_, _<_, _≤_}
+use Prim.Native.Nat.{ℕ, zero, suc, _+_, _≤_}
 use native.Mathlib.Omega.{arith}
 use mir.Syntax.{w32}
 use mir.Val.{Fits}
 use lib.Dec.{eqb, ltb}
 use lib.ListN.{length}
 use borrow.Author.Tests.{ltb-false}
-use Rattle.paper.specs.declared.Reading.{Reading}
 use Rattle.paper.specs.declared.Reading.the-variants.{Accepted, Unread}
 use Rattle.paper.specs.Text.{mayStand, badByteLine, lines}
-use Rattle.paper.specs.Page.{Page, fields, fault, beforeFirst, pageFrom, pageOf}
+use Rattle.paper.specs.Page.{Page, fields, fault, beforeFirst, pageOf}
 use Rattle.paper.specs.Rules.{unlessLine}
 use Rattle.paper.specs.Promises.{reading}
 use Rattle.first.proofs.Steps.{Bounded, bounded, lines-few}

@@ -7,7 +7,6 @@ use mathlib.Core.Path.{_≡_}
 use lib.ListN.{length}
 use Prim.Native.Nat.{_-_, _+_, _≤_}
 use borrow.Author.Needs.{needs}
-use native.Mathlib.Omega.{arith}
 use Rattle.page.proofs.field_count.Statement.{statement}
 use Rattle.page.proofs.field_count.Tie as tie
 use Rattle.page.proofs.field_count.Reads as reads

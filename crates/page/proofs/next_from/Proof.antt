@@ -6,7 +6,6 @@ use mathlib.Core.Path.{_≡_}
 use lib.ListN.{length, drop}
 use Prim.Native.Nat.{_-_, _+_, _≤_}
 use borrow.Author.Needs.{needs}
-use native.Mathlib.Omega.{arith}
 use Rattle.page.proofs.next_from.Statement.{statement}
 use Rattle.page.proofs.next_from.Tie as tie
 use Rattle.page.proofs.next_from.Reads as reads
