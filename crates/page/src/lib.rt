@@ -7,10 +7,10 @@ ghost use mathlib.Core.Path.{_≡_};
 ghost use Prim.Native.Nat.{_+_, _≤_};
 ghost use lib.ListN.{length, drop};
 ghost use Rattle.paper.specs.Text.{lines};
-ghost use Rattle.paper.specs.Page.{pageFrom, pageOf};
+ghost use Rattle.paper.specs.Page.{atEnd, pageFrom, pageOf};
 ghost use Rattle.paper.specs.Promises.{reading};
 ghost use Rattle.step.specs.Steps.{stateOf};
-ghost use Rattle.page.specs.Walk.{lineOf, pageLeft, atStart, pageNext, Within, fieldsOf, refusalOf, textPage};
+ghost use Rattle.page.specs.Walk.{lineOf, pageLeft, atStart, pageNext, lastNext, Within, fieldsOf, refusalOf, textPage};
 
 // Where the walk stands: the place of a byte, the line that begins there, and the state after the lines before it.
 pub struct Cursor {
@@ -64,6 +64,22 @@ fn line_of(c: Cursor) -> usize
     c.at + 1
 }
 
+// After the last line: n is one past it.
+fn at_end(st: State, n: usize) -> Next
+    ensures { λ r. ⌜ r ≡ lastNext (atEnd (stateOf st) n) ⌝ }
+{
+    if step::needs_block(st) {
+        return Next::Fault {
+            number: 9,
+            line: st.line,
+        };
+    }
+    if listing::may_end(st.place) {
+        return Next::End;
+    }
+    Next::Fault { number: 4, line: n }
+}
+
 // The next field of the lines from `from` on, the first of which is line n.
 fn next_from(t: &[u8], st: State, from: usize, n: usize) -> Next
     requires { ⌜ n ≤ from + 1 ⌝ }
@@ -97,16 +113,7 @@ fn next_from(t: &[u8], st: State, from: usize, n: usize) -> Next
         at = next;
         line += 1;
     }
-    if step::needs_block(st) {
-        return Next::Fault {
-            number: 9,
-            line: st.line,
-        };
-    }
-    if listing::may_end(st.place) {
-        return Next::End;
-    }
-    Next::Fault { number: 4, line }
+    at_end(st, line)
 }
 
 pub fn next_field(t: &[u8], c: Cursor) -> Next
