@@ -1,3 +1,4 @@
 pub mod Steps
 pub mod Theorems
 pub mod Order
+pub mod Right

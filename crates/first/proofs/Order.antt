@@ -2,17 +2,17 @@
 use mathlib.Core.Path.{_≡_, refl, sym, ap, _∙_}
 use mathlib.Core.List.{List, [], _∷_}
 use mathlib.Core.Bool.{Bool, true, false, cond, not, _&&_, _||_}
-use Prim.Native.Nat.{ℕ, zero, suc, _+_}
+use Prim.Native.Nat.{ℕ, zero, suc}
 use native.Mathlib.Omega.{arith}
 use lib.Dec.{eqb}
 use lib.ListN.{length, drop}
 use borrow.Author.Tests.{eqb-true}
-use Rattle.paper.specs.Common.{bytes, isEmpty, allOf, same, isOne, anyOf}
+use Rattle.paper.specs.Common.{bytes, isEmpty, allOf, same, isOne}
 use Rattle.paper.specs.Text.{Line, skipped}
 use Rattle.paper.specs.Scalars.{Scalar, isScalar}
-use Rattle.paper.specs.Lists.{bracketed, inside, spaced, elements, elementsIn, listFault}
-use Rattle.paper.specs.Listing.{Value, keys, noneOrItems, allOrKeys, allNoneOrItems, scalar, list, someList, listOrAll, bareIsNone, rowAt, keyAt, atBlock, valueFault}
-use Rattle.paper.specs.Page.{State, Step, pass, stop, needsBlock, placesFor, placeOf, oneSpaceAndValue, fieldStep, bareFault, afterKey, placeStep, unlessEmpty, lineStep}
+use Rattle.paper.specs.Lists.{bracketed, inside, spaced, elements, listFault}
+use Rattle.paper.specs.Listing.{Value, keys, noneOrItems, allOrKeys, allNoneOrItems, scalar, list, someList, listOrAll, bareIsNone, rowAt, atBlock, valueFault}
+use Rattle.paper.specs.Page.{State, Field, pass, stop, needsBlock, oneSpaceAndValue, fieldStep, bareFault, afterKey, placeStep, unlessEmpty, lineStep}
 use Rattle.laws.proofs.Tests.{same-equal}
 use Rattle.first.specs.Order.{inOrder, isList, valueFour, valueNine, valueFive, placeIn, restOf, lineFour, lineNine, lineFive}
 
@@ -111,3 +111,31 @@ line-order st n l s e =
     (valueFive (rowAt (placeIn st l) .value) (drop 1 (restOf st l)))
     (none-behind (restOf st l))
     (value-order (rowAt (placeIn st l) .value) (drop 1 (restOf st l))))
+
+field-number : (n p : ℕ) (b : Bool) (v : List ℕ) (q k m : ℕ) → fieldStep n p b v q ≡ stop k m → k ≡ q
+unfolding fieldStep
+field-number n p b v zero k m e = absurd (let z : _≡_ {A = ℕ} 0 1 = cc in omega arith)
+field-number n p b v (suc q) k m e = cc
+
+field-passes : (n p : ℕ) (b : Bool) (v : List ℕ) (q : ℕ) (st′ : State) (fs : List Field) → fieldStep n p b v q ≡ pass st′ fs → q ≡ 0
+unfolding fieldStep
+field-passes n p b v zero st′ fs e = refl
+field-passes n p b v (suc q) st′ fs e = absurd (let z : _≡_ {A = ℕ} 0 1 = cc in omega arith)
+
+-- so the fault of such a line is the first in the order
+pub own-first : (st : State) (n : ℕ) (l : Line) (k m : ℕ) → skipped (l .text) ≡ false → (needsBlock st && not (atBlock (st .place) (l .text))) ≡ false
+    → lineStep st n l ≡ stop k m → k ≡ inOrder (lineFour st l) (lineNine st l) (lineFive st l)
+own-first st n l k m s e f = field-number n (placeIn st l) (isEmpty (restOf st l)) (drop 1 (restOf st l)) _ k m (sym (line-order st n l s e) ∙ f)
+
+-- and a line that passes so has none of the three
+pub passing-free : (st : State) (n : ℕ) (l : Line) (st′ : State) (fs : List Field) → skipped (l .text) ≡ false → (needsBlock st && not (atBlock (st .place) (l .text))) ≡ false
+    → lineStep st n l ≡ pass st′ fs → inOrder (lineFour st l) (lineNine st l) (lineFive st l) ≡ 0
+passing-free st n l st′ fs s e f = field-passes n (placeIn st l) (isEmpty (restOf st l)) (drop 1 (restOf st l)) _ st′ fs (sym (line-order st n l s e) ∙ f)
+
+-- none in the order is none at all
+pub none-of-three : (four nine five : Bool) → inOrder four nine five ≡ 0 → (four ≡ false) × (nine ≡ false) × (five ≡ false)
+unfolding inOrder
+none-of-three true nine five e = absurd (let z : _≡_ {A = ℕ} 4 0 = e in omega arith)
+none-of-three false true five e = absurd (let z : _≡_ {A = ℕ} 9 0 = e in omega arith)
+none-of-three false false true e = absurd (let z : _≡_ {A = ℕ} 5 0 = e in omega arith)
+none-of-three false false false e = (refl, refl, refl)

@@ -1,17 +1,16 @@
 -- What a page answers is the smallest line at fault.
 use mathlib.Core.Path.{_≡_, refl, sym, ap, _∙_}
-use mathlib.Core.List.{List, [], _∷_, _++_}
+use mathlib.Core.List.{List, [], _∷_}
 use mathlib.Core.Bool.{Bool, true, false, cond}
-use mathlib.Core.Logic.{_⊎_, inl, inr, ⊎-elim}
-use Prim.Native.Nat.{ℕ, zero, suc, _+_, _≤_}
+use mathlib.Core.Logic.{_⊎_, ⊎-elim}
+use Prim.Native.Nat.{ℕ, _+_}
 use native.Mathlib.Omega.{arith}
-use lib.ListN.{length}
 use Rattle.paper.specs.Text.{Line, lines, skipped}
 use Rattle.paper.specs.Listing.{rowAt, atBlock}
 use Rattle.paper.specs.Page.{Page, fields, fault, State, Step, pass, stop, Field, beforeFirst, blockCouldFollow, needsBlock, lineStep, atEnd, andFields, after, pageFrom, pageOf}
-use Rattle.first.specs.First.{Free, none, one, AllSkipped, Apart, Own, Empty, Missing, Above, First, own, empty, missing, above}
+use Rattle.first.specs.First.{Free, none, one, AllSkipped, Own, Empty, Missing, Above, First, own, empty, missing, above}
 use Rattle.first.specs.First as first
-use Rattle.first.proofs.Steps.{Stops, Does, does}
+use Rattle.first.proofs.Steps.{Does, does}
 
 -- ---- one line more in front
 

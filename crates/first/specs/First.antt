@@ -1,13 +1,13 @@
 -- What it is to be the first line at fault: every line before it passes.
 use mathlib.Core.Path.{_≡_}
 use mathlib.Core.List.{List, [], _∷_, _++_}
-use mathlib.Core.Bool.{Bool, true, false}
+use mathlib.Core.Bool.{true, false}
 use mathlib.Core.Logic.{_⊎_}
 use Prim.Native.Nat.{ℕ, _+_}
 use lib.ListN.{length}
 use Rattle.paper.specs.Text.{Line, skipped}
 use Rattle.paper.specs.Listing.{atBlock}
-use Rattle.paper.specs.Page.{Page, fault, State, Step, pass, stop, Field, needsBlock, lineStep, atEnd}
+use Rattle.paper.specs.Page.{fault, State, pass, stop, Field, needsBlock, lineStep, atEnd}
 
 -- every one of the lines passes, from line n on, and leads from one state to another
 pub data Free : State → ℕ → List Line → State → Type 0 where

@@ -55,9 +55,6 @@ cut-end c (b ∷ bs) h = go (eqb b c) h (λ k. cut-end c bs k)
 -- ---- the same at an index: from `at` to the separator at e
 
 module _ (c : ℕ) (t : List ℕ) (at e : ℕ) (f : e ≡ at + before c (drop at t)) where
-  pub piece-from : at ≤ e
-  piece-from = omega arith
-
   pub piece-length : e - at ≡ before c (drop at t)
   piece-length = omega arith
 

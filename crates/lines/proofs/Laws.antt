@@ -1,6 +1,6 @@
 -- One line of a text, and one byte of a line.
 use mathlib.Core.Path.{_≡_, refl, sym, ap, _∙_}
-use mathlib.Core.Bool.{Bool, true, false, cond, not, _||_}
+use mathlib.Core.Bool.{Bool, true, false, cond, not}
 use mathlib.Core.List.{List, [], _∷_}
 use Prim.Native.Nat.{ℕ, suc, _+_, _-_, _<_, _≤_}
 use native.Mathlib.Nat.{not-suc-le-zero}
@@ -12,10 +12,9 @@ use borrow.Author.Tests.{eq-eqb, ne-eqb, not-true, not-false}
 use Rattle.paper.specs.Common.{within}
 use Rattle.paper.specs.Text.{Line, lines, onLine, column, skipped, mayStand, badByteLine}
 use Rattle.laws.specs.Pieces.{before}
-use Rattle.laws.proofs.Pieces.{before-within, piece-length, piece-within, piece-short, piece-behind, piece-last}
+use Rattle.laws.proofs.Pieces.{piece-length, piece-within, piece-short, piece-behind, piece-last}
 use Rattle.laws.proofs.Places.{drop-more}
 use Rattle.lines.specs.Splits.{Splits}
-use Rattle.lines.specs.declared.LineAt.{LineAt}
 
 -- ---- the first line, and what is left
 

@@ -1,15 +1,15 @@
 -- The tables hold the rows of the listing: one computed test for each, and the rule at each place.
 use mathlib.Core.Path.{_≡_, refl, sym, ap, _∙_}
-use mathlib.Core.Bool.{Bool, true, false, cond, not, _&&_, _||_, Bool·beq}
-use mathlib.Core.List.{List, [], _∷_, map}
+use mathlib.Core.Bool.{Bool, true, false, cond, not, Bool·beq}
+use mathlib.Core.List.{List, [], map}
 use mathlib.Core.Logic.{dite}
 use Prim.Native.Nat.{ℕ, _+_, _*_, _-_, _<_, _≤_}
 use native.Mathlib.Decide.{decLt}
 use native.Mathlib.Omega.{arith}
-use lib.Dec.{eqb, leb, ltb}
+use lib.Dec.{eqb, leb}
 use lib.ListN.{length, getD, take, drop, drop-of-length-le, length-drop, List·getD-eq-default, List·getD-map}
 use lib.Seq.{take-all}
-use borrow.Author.Tests.{eqb-true, leb-true, eq-eqb, ne-eqb, lt-leb, le-leb}
+use borrow.Author.Tests.{eqb-true, leb-true, eq-eqb, ne-eqb}
 use Rattle.paper.specs.Common.{bytes, same, upTo, startsWith, isEmpty}
 use Rattle.paper.specs.Text.{column}
 use Rattle.paper.specs.Listing.{Row, row, Value, listing, rowAt, keyAt, dashed, alongside, atBlock}
@@ -17,7 +17,7 @@ use Rattle.paper.specs.Listing as paper
 use Rattle.paper.specs.Page.{placeOf}
 use Rattle.values.specs.Values.{valueOf}
 use Rattle.values.specs.declared.Value.the-variants.{Keys}
-use Rattle.laws.proofs.Tests.{upTo-at, same-equal, both-left, both-right}
+use Rattle.laws.proofs.Tests.{upTo-at, same-equal}
 use Rattle.laws.proofs.Places.{drop-more}
 use Rattle.listing.specs.Blocks.{columnOf, dashOf}
 use Rattle.listing.proofs.Tables.{values, lasts, keys, starts, ends, nexts, blocks, columns, dashes}

@@ -3,7 +3,6 @@ use scalars::Scalar;
 use values::Value;
 ghost use mathlib.Core.Path.{_≡_};
 ghost use mathlib.Core.Bool.{cond, not};
-ghost use Prim.Native.Nat.{ℕ};
 ghost use lib.ListN.{length, getD};
 ghost use Rattle.paper.specs.Common.{isEmpty, startsWith};
 ghost use Rattle.paper.specs.Listing.{rowAt, keyAt, dashed, atBlock};

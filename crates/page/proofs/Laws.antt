@@ -1,16 +1,15 @@
 -- The walk, line by line.
 use mathlib.Core.Path.{_≡_, refl, sym, ap, _∙_}
-use mathlib.Core.Bool.{Bool, true, false, cond, not}
+use mathlib.Core.Bool.{Bool, true, false, cond}
 use mathlib.Core.List.{List, [], _∷_}
 use Prim.Native.Nat.{ℕ, zero, suc, _+_, _*_, _-_, _^_, _<_, _≤_, min}
 use native.Mathlib.Omega.{arith}
 use mir.Syntax.{w64}
 use mir.Val.{Fits}
-use lib.Dec.{ltb}
-use lib.ListN.{length, take, drop, length-take, length-drop, drop-of-length-le}
+use lib.ListN.{length, take, drop, length-take, drop-of-length-le}
 use lib.Seq.{drop-drop, drop-nil, take-nil}
 use borrow.Author.Tests.{lt-ltb, le-ltb}
-use Rattle.paper.specs.Text.{Line, lines, badByteLine}
+use Rattle.paper.specs.Text.{lines, badByteLine}
 use Rattle.paper.specs.Listing.{rowAt}
 use Rattle.paper.specs.Page as paper
 use Rattle.paper.specs.Page.{Page, fields, fault, andFields, after, beforeFirst, needsBlock, lineStep, atEnd, pageFrom, pageOf}
@@ -21,7 +20,7 @@ use Rattle.step.specs.Steps.{stateOf, stepOf, StartsIn}
 use Rattle.step.specs.declared.State.{State}
 use Rattle.step.specs.declared.Step as step
 use Rattle.step.specs.declared.Step.the-variants as steps
-use Rattle.page.specs.Walk.{lineOf, pageLeft, atStart, pageNext, Within, refusalOf, textPage}
+use Rattle.page.specs.Walk.{lineOf, pageLeft, atStart, pageNext, lastNext, Within, refusalOf, textPage}
 use Rattle.page.specs.declared.Cursor.{Cursor}
 use Rattle.page.specs.declared.Next as next
 use Rattle.page.specs.declared.Next.the-variants.{Field, End, Fault}
@@ -36,12 +35,6 @@ drop-take zero n xs = let q : n - 0 ≡ n = omega arith in rw q refl
 drop-take (suc a) zero xs = let q : 0 - suc a ≡ 0 = omega arith in rw q (drop-nil (suc a))
 drop-take (suc a) (suc n) [] = sym (take-nil (suc n - suc a))
 drop-take (suc a) (suc n) (x ∷ xs) = let q : suc n - suc a ≡ n - a = omega arith in rw q (drop-take a n xs)
-
-pub line-small : (c : Cursor) → c .line ≤ c .at → c .line ≡ lineOf c
-line-small c h = omega arith
-
-pub line-large : (c : Cursor) → c .at < c .line → c .at + 1 ≡ lineOf c
-line-large c h = omega arith
 
 -- ---- one line of the walk
 
@@ -108,23 +101,40 @@ module _ (t : List ℕ) (at : ℕ) (l : LineAt) (sp : at < length t → Splits t
 
 -- ---- the end of the text
 
-module _ (t : List ℕ) (at n : ℕ) (st : State) (P : Page) (inv : pageFrom (stateOf st) n (lines (drop at t)) ≡ P) (h : length t ≤ at) where
-  ended : P ≡ atEnd (stateOf st) n
-  unfolding pageFrom lines
-  ended = sym inv ∙ rw (drop-of-length-le t h) refl
-
-  pub end-empty : (b : Bool) → b ≡ needsBlock (stateOf st) → b ≡ true → P ≡ pageNext t (Fault 9 (st .line))
+module _ (st : State) (n : ℕ) (b : Bool) (e : b ≡ needsBlock (stateOf st)) where
+  pub end-empty : b ≡ true → Fault 9 (st .line) ≡ lastNext (atEnd (stateOf st) n)
   unfolding atEnd
-  end-empty b e u = ended ∙ rw (← e, u) refl
+  end-empty u = rw (← e, u)
 
-  module _ (b r : Bool) (e : b ≡ needsBlock (stateOf st)) (u : b ≡ false) (f : r ≡ rowAt (st .place) .last) where
-    pub end-right : r ≡ true → P ≡ pageNext t End
+  module _ (r : Bool) (u : b ≡ false) (f : r ≡ rowAt (st .place) .last) where
+    pub end-right : r ≡ true → End ≡ lastNext (atEnd (stateOf st) n)
     unfolding atEnd
-    end-right v = ended ∙ rw (← e, u, ← f, v) refl
+    end-right v = rw (← e, u, ← f, v)
 
-    pub end-missing : r ≡ false → P ≡ pageNext t (Fault 4 n)
+    pub end-missing : r ≡ false → Fault 4 n ≡ lastNext (atEnd (stateOf st) n)
     unfolding atEnd
-    end-missing v = ended ∙ rw (← e, u, ← f, v) refl
+    end-missing v = rw (← e, u, ← f, v)
+
+module _ (t : List ℕ) (n : ℕ) (st : State) (r : next.Next) (e : r ≡ lastNext (atEnd (stateOf st) n)) where
+  last-is : atEnd (stateOf st) n ≡ pageNext t (lastNext (atEnd (stateOf st) n))
+  unfolding atEnd
+  last-is = go (needsBlock (stateOf st)) (rowAt (st .place) .last)
+    where
+      go : (a b : Bool) → cond a (fault 9 (st .line)) (cond b (fields []) (fault 4 n)) ≡ pageNext t (lastNext (cond a (fault 9 (st .line)) (cond b (fields []) (fault 4 n))))
+      go true b = refl
+      go false true = refl
+      go false false = refl
+
+  pub walk-ends : (at : ℕ) (P : Page) → pageFrom (stateOf st) n (lines (drop at t)) ≡ P → length t ≤ at → P ≡ pageNext t r
+  unfolding pageFrom lines
+  walk-ends at P inv h = sym inv ∙ rw (drop-of-length-le t h) (last-is ∙ ap (pageNext t) (sym e))
+
+  pub walk-ended : (from : ℕ) → Within t from r
+  walk-ended from = rw e (go (atEnd (stateOf st) n))
+    where
+      go : (p : Page) → Within t from (lastNext p)
+      go (fields fs) = tt
+      go (fault k m) = tt
 
 pub walk-starts : (t : List ℕ) (c : Cursor) (n : ℕ) (P : Page) → n ≡ lineOf c → pageFrom (stateOf (c .state)) n (lines (drop (c .at) t)) ≡ P → pageLeft t c ≡ P
 unfolding pageLeft

@@ -2,17 +2,16 @@
 use mathlib.Core.Path.{_≡_, refl, sym, ap, _∙_}
 use mathlib.Core.Bool.{Bool, true, false, cond}
 use mathlib.Core.List.{List, [], _∷_}
-use Prim.Native.Nat.{ℕ, zero, suc, _+_, _<_, _≤_}
+use Prim.Native.Nat.{ℕ, zero, suc, _+_, _≤_}
 use native.Mathlib.Omega.{arith}
 use mir.Syntax.{w32}
 use mir.Val.{Fits}
 use lib.Dec.{eqb, ltb}
 use lib.ListN.{length}
 use borrow.Author.Tests.{ltb-false}
-use Rattle.paper.specs.declared.Reading.{Reading}
 use Rattle.paper.specs.declared.Reading.the-variants.{Accepted, Unread}
 use Rattle.paper.specs.Text.{mayStand, badByteLine, lines}
-use Rattle.paper.specs.Page.{Page, fields, fault, beforeFirst, pageFrom, pageOf}
+use Rattle.paper.specs.Page.{Page, fields, fault, beforeFirst, pageOf}
 use Rattle.paper.specs.Rules.{unlessLine}
 use Rattle.paper.specs.Promises.{reading}
 use Rattle.first.proofs.Steps.{Bounded, bounded, lines-few}
@@ -33,6 +32,25 @@ page-right t = go (pageOf t) refl
     go : (p : Page) → pageOf t ≡ p → Right (length t + 1) p
     go (fields fs) e = tt
     go (fault k m) e = let b : Bounded 1 (length (lines t)) k m = page-bounded t k m e in (b .numbered, omega (arith, b .within, lines-few t))
+
+-- ---- a page that is not refused is its fields: what a pass over the fields starts from
+
+module _ (t : List ℕ) (r : Refusal) (e : r ≡ refusalOf (pageOf t)) where
+  pub page-fields : r .number ≡ 0 → pageOf t ≡ fields (fieldsOf (pageOf t))
+  page-fields n = go (pageOf t) e (page-right t)
+    where
+      go : (p : Page) → r ≡ refusalOf p → Right (length t + 1) p → p ≡ fields (fieldsOf p)
+      go (fields fs) f w = refl
+      go (fault k m) f w = let z : r .number ≡ k = ap (λ (x : Refusal). x .number) f in absurd (w .0 (sym z ∙ n))
+
+  pub page-none : (r .number ≡ 0 → ⊥) → 0 ≡ length (fieldsOf (pageOf t))
+  page-none n = go (pageOf t) e
+    where
+      go : (p : Page) → r ≡ refusalOf p → 0 ≡ length (fieldsOf p)
+      go (fields fs) f = absurd (n (ap (λ (x : Refusal). x .number) f))
+      go (fault k m) f = refl
+
+-- ---- a text
 
 bad-within : (n : ℕ) (t : List ℕ) → badByteLine n t ≤ n + length t
 unfolding badByteLine

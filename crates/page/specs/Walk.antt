@@ -34,6 +34,11 @@ pageNext t (Field line place start end after) =
 pageNext t End = fields []
 pageNext t (Fault number line) = fault number line
 
+-- the walk at the end of the text, where no field is left
+abbrev pub lastNext : Page → Next
+lastNext (fields fs) = End
+lastNext (fault number line) = Fault number line
+
 -- a field's value stands in the text, and the walk goes on
 abbrev pub Within : List ℕ → ℕ → Next → Type 0
 Within t at (Field line place start end after) = (start ≤ end) × (end ≤ length t) × (at < after .at) × (after .at ≤ length t)

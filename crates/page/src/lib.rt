@@ -5,12 +5,12 @@ use step::State;
 use step::Step;
 ghost use mathlib.Core.Path.{_≡_};
 ghost use Prim.Native.Nat.{_+_, _≤_};
-ghost use lib.ListN.{drop};
+ghost use lib.ListN.{length, drop};
 ghost use Rattle.paper.specs.Text.{lines};
-ghost use Rattle.paper.specs.Page.{pageFrom, pageOf};
+ghost use Rattle.paper.specs.Page.{atEnd, pageFrom, pageOf};
 ghost use Rattle.paper.specs.Promises.{reading};
 ghost use Rattle.step.specs.Steps.{stateOf};
-ghost use Rattle.page.specs.Walk.{lineOf, pageLeft, atStart, pageNext, Within, refusalOf, textPage};
+ghost use Rattle.page.specs.Walk.{lineOf, pageLeft, atStart, pageNext, lastNext, Within, fieldsOf, refusalOf, textPage};
 
 // Where the walk stands: the place of a byte, the line that begins there, and the state after the lines before it.
 pub struct Cursor {
@@ -64,6 +64,22 @@ fn line_of(c: Cursor) -> usize
     c.at + 1
 }
 
+// After the last line: n is one past it.
+fn at_end(st: State, n: usize) -> Next
+    ensures { λ r. ⌜ r ≡ lastNext (atEnd (stateOf st) n) ⌝ }
+{
+    if step::needs_block(st) {
+        return Next::Fault {
+            number: 9,
+            line: st.line,
+        };
+    }
+    if listing::may_end(st.place) {
+        return Next::End;
+    }
+    Next::Fault { number: 4, line: n }
+}
+
 // The next field of the lines from `from` on, the first of which is line n.
 fn next_from(t: &[u8], st: State, from: usize, n: usize) -> Next
     requires { ⌜ n ≤ from + 1 ⌝ }
@@ -97,16 +113,7 @@ fn next_from(t: &[u8], st: State, from: usize, n: usize) -> Next
         at = next;
         line += 1;
     }
-    if step::needs_block(st) {
-        return Next::Fault {
-            number: 9,
-            line: st.line,
-        };
-    }
-    if listing::may_end(st.place) {
-        return Next::End;
-    }
-    Next::Fault { number: 4, line }
+    at_end(st, line)
 }
 
 pub fn next_field(t: &[u8], c: Cursor) -> Next
@@ -138,6 +145,37 @@ pub fn page_refusal(t: &[u8]) -> Refusal
             }
             Next::Fault { number, line } => {
                 return Refusal { number, line };
+            }
+        }
+    }
+}
+
+// How many fields a page has, none where it is refused: the least of the passes over the fields.
+pub fn field_count(t: &[u8]) -> usize
+    ensures { λ r. ⌜ r ≡ length (fieldsOf (pageOf (now (t .entry)))) ⌝ }
+{
+    if page_refusal(t).number != 0 {
+        return 0;
+    }
+    let mut c = start();
+    let mut n: usize = 0;
+    loop {
+        match next_field(t, c) {
+            Next::Field {
+                line: _,
+                place: _,
+                start: _,
+                end: _,
+                after,
+            } => {
+                c = after;
+                n += 1;
+            }
+            Next::End => {
+                return n;
+            }
+            Next::Fault { number: _, line: _ } => {
+                return 0;
             }
         }
     }

@@ -1,14 +1,14 @@
 -- Scalars, one test after another.
 use mathlib.Core.Path.{_≡_, refl, sym, ap, _∙_}
-use mathlib.Core.Bool.{Bool, true, false, cond, not, _&&_, _||_}
+use mathlib.Core.Bool.{Bool, true, false, not, _&&_, _||_}
 use mathlib.Core.List.{List, [], _∷_}
 use Prim.Native.Nat.{ℕ, suc, _+_, _-_, _<_, _≤_}
 use native.Mathlib.Omega.{arith}
 use lib.Dec.{eqb}
-use lib.ListN.{length, getD, take, drop, length-drop, length-take}
+use lib.ListN.{length, getD, take, drop, length-drop}
 use lib.Seq.{length-take-le}
-use borrow.Author.Tests.{eq-eqb, ne-eqb, lt-leb, le-leb, not-true, not-false}
-use Rattle.paper.specs.Common.{bytes, same, isOne, anyOf, allOf, isEmpty, cut, onPiece}
+use borrow.Author.Tests.{eq-eqb, ne-eqb, lt-leb, le-leb}
+use Rattle.paper.specs.Common.{bytes, same, isOne, anyOf, allOf, cut}
 use Rattle.paper.specs.Scalars.{nameByte, isDigit, isWord, isDomainName, isVariable, isUid, isGid, isLineNumber, identifierByte, identifierFirst, meets, Need, needed, absent, free, objectSorts, isOfSort, partsFit, isIdentifier, isScalar, Kind, subject, object, patternElement}
 use Rattle.laws.specs.Pieces.{before}
 use Rattle.laws.proofs.Tests.{same-equal, eqb-same}

@@ -2,7 +2,7 @@
 use Prim.Native.Nat.{ℕ}
 use mathlib.Core.List.{List}
 use mathlib.Core.Bool.{Bool, _&&_, _||_}
-use Rattle.paper.specs.Common.{isEmpty, same}
+use Rattle.paper.specs.Common.{isEmpty}
 use Rattle.paper.specs.Scalars as paper
 use Rattle.paper.specs.Scalars.{meets, isLineNumber}
 use Rattle.scalars.specs.declared.Need.{Need}

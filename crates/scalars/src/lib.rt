@@ -1,8 +1,7 @@
 // Scalars: names, users and groups, identifiers.
 ghost use mathlib.Core.Path.{_≡_};
-ghost use mathlib.Core.Bool.{not};
-ghost use mathlib.Core.List.{List, [], _∷_};
-ghost use Rattle.paper.specs.Common.{isEmpty, anyOf, cut};
+ghost use mathlib.Core.List.{[], _∷_};
+ghost use Rattle.paper.specs.Common.{anyOf, cut};
 ghost use Rattle.paper.specs.Scalars.{isWord, isDomainName, isVariable, isUid, isGid, isLineNumber, meets, objectSorts, isOfSort, partsFit, isIdentifier, isScalar, subject, object};
 ghost use Rattle.scalars.specs.Sorts.{needOf, kindOf, scalarOf, fieldsFit};
 

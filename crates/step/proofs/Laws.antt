@@ -1,15 +1,15 @@
 -- The step of a line, one test after another.
 use mathlib.Core.Path.{_≡_, refl, sym, ap, _∙_}
-use mathlib.Core.Bool.{Bool, true, false, cond, not, _&&_, _||_}
+use mathlib.Core.Bool.{Bool, true, false, cond, not, _&&_}
 use mathlib.Core.List.{List, [], _∷_}
 use mathlib.Core.Logic.{dite}
 use Prim.Native.Nat.{ℕ, zero, suc, _+_, _-_, _<_, _≤_, min}
 use native.Mathlib.Decide.{decLe}
 use native.Mathlib.Omega.{arith}
-use lib.Dec.{eqb, leb}
+use lib.Dec.{eqb}
 use lib.ListN.{length, getD, take, drop, length-drop, drop-of-length-le}
 use lib.Seq.{drop-drop, take-all}
-use borrow.Author.Tests.{eqb-true, eq-eqb, ne-eqb, lt-leb, le-leb, not-true, not-false}
+use borrow.Author.Tests.{eq-eqb, ne-eqb, lt-leb, le-leb, not-true, not-false}
 use Rattle.paper.specs.Common.{isEmpty}
 use Rattle.paper.specs.Text.{skipped}
 use Rattle.paper.specs.Listing.{Value, rowAt, keyAt, atBlock, bareIsNone, valueFault}
@@ -106,9 +106,6 @@ module _ (s : List ℕ) where
     unfolding restFault
     rest-value o v r h e t f g = rw (ne-eqb (length s) 0 h, told-yes (oneSpaceAndValue s) o e t, ← f, g, take-all (length s - 1) (drop 1 s) (omega (arith, length-drop 1 s)))
 
-  pub rest-room : (length s ≡ 0 → ⊥) → 1 ≤ length s
-  rest-room h = omega arith
-
 -- ---- a line of a place
 
 -- what stands after the key decides alone
@@ -166,9 +163,6 @@ module _ (st : State) (n p : ℕ) (l : List ℕ) where
     place-field h e =
         let q : isEmpty (drop a l) ≡ false = ne-eqb (length (drop a l)) 0 (λ z. omega (arith, length-drop a l)) in
         step-is ∙ field-pass n p _ _ m h ∙ rw (q, drop-drop 1 a l) refl
-
-    pub place-room : (a ≡ length l → ⊥) → a + 1 ≤ length l
-    place-room e = omega arith
 
 -- ---- a line
 

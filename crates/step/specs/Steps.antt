@@ -1,7 +1,7 @@
 -- The code's state and step, and the paper's.
 use Prim.Native.Nat.{ℕ, _≤_}
 use mathlib.Core.List.{List, [], _∷_}
-use mathlib.Core.Bool.{Bool, cond}
+use mathlib.Core.Bool.{cond}
 use lib.ListN.{length, drop}
 use Rattle.paper.specs.Common.{isEmpty}
 use Rattle.paper.specs.Listing.{rowAt, valueFault}

@@ -3,7 +3,7 @@ use mathlib.Core.Path.{_≡_, refl, sym, ap, _∙_}
 use mathlib.Core.Bool.{Bool, true, false, cond, not, _&&_, _||_, Bool·beq}
 use mathlib.Core.List.{List, [], _∷_, map}
 use mathlib.Core.Logic.{dite}
-use Prim.Native.Nat.{ℕ, zero, suc, _+_, _*_, _-_, _^_, _<_, _≤_}
+use Prim.Native.Nat.{ℕ, suc, _+_, _-_, _^_, _<_, _≤_}
 use native.Mathlib.Nat.{not-suc-le-zero}
 use native.Mathlib.Decide.{decLt}
 use native.Mathlib.Omega.{arith}
@@ -15,8 +15,8 @@ use lib.Seq.{drop-drop}
 use borrow.Author.Tests.{eqb-true, leb-true, eq-eqb, ne-eqb, lt-leb, le-leb, not-true, not-false}
 use Rattle.paper.specs.Common.{bytes, same, isOne, anyOf, allOf, cut, onPiece}
 use Rattle.paper.specs.Scalars.{Scalar, isScalar}
-use Rattle.paper.specs.Lists.{comma, bracketed, inside, spaced, unspaced, elementsIn, elements, listFault}
-use Rattle.paper.specs.Listing.{bareIsNone, valueFault, keys, noneOrItems, allOrKeys, allNoneOrItems, scalar, list, someList, listOrAll}
+use Rattle.paper.specs.Lists.{comma, bracketed, spaced, unspaced, elementsIn, elements, listFault}
+use Rattle.paper.specs.Listing.{bareIsNone, valueFault, noneOrItems, allOrKeys, allNoneOrItems, scalar, list, someList, listOrAll}
 use Rattle.laws.specs.Pieces.{before}
 use Rattle.laws.proofs.Tests.{both-left, both-right}
 use Rattle.laws.proofs.Chains.{told-no, told-yes}
@@ -157,13 +157,13 @@ module _ (s : List ℕ) (at e : ℕ) (f : e ≡ at + before 44 (drop at s)) (w :
   pub spaced-on : e < length s → spaced 0 (drop (e + 2) s) ≡ true
   spaced-on h = rw two at (behind h .rest)
 
-  elements-more : e < length s → map unspaced (cut 44 (drop at s)) ≡ take (e - at) (drop at s) ∷ map unspaced (cut 44 (drop (e + 2) s))
+  pub elements-more : e < length s → map unspaced (cut 44 (drop at s)) ≡ take (e - at) (drop at s) ∷ map unspaced (cut 44 (drop (e + 2) s))
   elements-more h =
       ap (map unspaced) (cut-more 44 s at e f h)
       ∙ ap (λ (x : List ℕ). x ∷ map unspaced (cut 44 (drop (e + 1) s))) element
       ∙ ap (λ (ys : List (List ℕ)). take (e - at) (drop at s) ∷ ys) (ap (λ (ys : List ℕ). map unspaced (cut 44 ys)) (behind h .space) ∙ without-space (drop 1 (drop (e + 1) s)) ∙ ap (λ (ys : List ℕ). map unspaced (cut 44 ys)) two)
 
-  elements-last : length s ≤ e → map unspaced (cut 44 (drop at s)) ≡ take (e - at) (drop at s) ∷ []
+  pub elements-last : length s ≤ e → map unspaced (cut 44 (drop at s)) ≡ take (e - at) (drop at s) ∷ []
   elements-last h = ap (map unspaced) (cut-last 44 s at e f w h) ∙ ap (λ (x : List ℕ). x ∷ []) element
 
   module _ (c : Scalar) (r : Bool) (t : r ≡ isScalar c (take (e - at) (drop at s))) (inv : allAre c (drop at s) ≡ allAre c s) where

@@ -4,7 +4,6 @@ ghost use mathlib.Core.Path.{_≡_};
 ghost use mathlib.Core.Bool.{true, Bool·beq};
 ghost use Prim.Native.Nat.{_<_};
 ghost use lib.Dec.{eqb};
-ghost use lib.ListN.{length};
 ghost use Rattle.paper.specs.Lists.{bracketed, spaced, listFault};
 ghost use Rattle.paper.specs.Listing.{bareIsNone, valueFault};
 ghost use Rattle.scalars.specs.Sorts.{scalarOf};

@@ -4,7 +4,6 @@ use lib.ListN.{length, drop}
 use Prim.Native.Nat.{_≤_, _-_, _+_}
 use Rattle.lines.proofs.Laws.{bad-again, bad-here, bad-none}
 use borrow.Author.Needs.{needs}
-use native.Mathlib.Omega.{arith}
 use Rattle.lines.proofs.bad_byte_line.Statement.{statement}
 use Rattle.lines.proofs.bad_byte_line.Tie as tie
 use Rattle.lines.proofs.bad_byte_line.Reads as reads

@@ -4,7 +4,6 @@ use lib.ListN.{length, drop}
 use Prim.Native.Nat.{_≤_, _-_, _+_}
 use Rattle.lines.proofs.Laws.{column-again, column-stops, column-ends}
 use borrow.Author.Needs.{needs}
-use native.Mathlib.Omega.{arith}
 use Rattle.lines.proofs.column.Statement.{statement}
 use Rattle.lines.proofs.column.Tie as tie
 use Rattle.lines.proofs.column.Reads as reads

@@ -1,5 +1,4 @@
 use Rattle.lines.proofs.Laws.{splits-ended, splits-open}
-use native.Mathlib.Omega.{arith}
 use borrow.Author.Needs.{needs}
 use Rattle.lines.proofs.line_at.Statement.{statement}
 use Rattle.lines.proofs.line_at.Tie as tie

@@ -1,5 +1,4 @@
 use Rattle.lines.proofs.Laws.{behind-line, behind-else}
-use native.Mathlib.Omega.{arith}
 use borrow.Author.Needs.{needs}
 use Rattle.lines.proofs.line_behind.Statement.{statement}
 use Rattle.lines.proofs.line_behind.Tie as tie

@@ -1,5 +1,4 @@
 use Rattle.lines.proofs.Laws.{stands-line, stands-else}
-use native.Mathlib.Omega.{arith}
 use borrow.Author.Needs.{needs}
 use Rattle.lines.proofs.may_stand.Statement.{statement}
 use Rattle.lines.proofs.may_stand.Tie as tie

@@ -1,5 +1,4 @@
 use Rattle.lines.proofs.Laws.{skipped-blank, skipped-else}
-use native.Mathlib.Omega.{arith}
 use borrow.Author.Needs.{needs}
 use Rattle.lines.proofs.skipped.Statement.{statement}
 use Rattle.lines.proofs.skipped.Tie as tie

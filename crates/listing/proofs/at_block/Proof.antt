@@ -1,5 +1,4 @@
 use Rattle.listing.proofs.Laws.{block-away, block-dash, block-plain}
-use native.Mathlib.Omega.{arith}
 use borrow.Author.Needs.{needs}
 use Rattle.listing.proofs.at_block.Statement.{statement}
 use Rattle.listing.proofs.at_block.Tie as tie

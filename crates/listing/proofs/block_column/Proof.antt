@@ -1,5 +1,4 @@
 use Rattle.listing.proofs.Laws.{column-beyond, column-is}
-use native.Mathlib.Omega.{arith}
 use borrow.Author.Needs.{needs}
 use Rattle.listing.proofs.block_column.Statement.{statement}
 use Rattle.listing.proofs.block_column.Tie as tie

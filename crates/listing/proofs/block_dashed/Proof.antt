@@ -1,5 +1,4 @@
 use Rattle.listing.proofs.Laws.{dash-beyond, dash-is}
-use native.Mathlib.Omega.{arith}
 use borrow.Author.Needs.{needs}
 use Rattle.listing.proofs.block_dashed.Statement.{statement}
 use Rattle.listing.proofs.block_dashed.Tie as tie

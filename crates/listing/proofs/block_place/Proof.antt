@@ -1,5 +1,4 @@
 use Rattle.listing.proofs.Laws.{block-beyond, block-none, block-is}
-use native.Mathlib.Omega.{arith}
 use borrow.Author.Needs.{needs}
 use Rattle.listing.proofs.block_place.Statement.{statement}
 use Rattle.listing.proofs.block_place.Tie as tie

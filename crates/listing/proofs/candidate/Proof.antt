@@ -1,5 +1,4 @@
 use Rattle.listing.proofs.Laws.{candidate-block, candidate-next}
-use native.Mathlib.Omega.{arith}
 use borrow.Author.Needs.{needs}
 use Rattle.listing.proofs.candidate.Statement.{statement}
 use Rattle.listing.proofs.candidate.Tie as tie

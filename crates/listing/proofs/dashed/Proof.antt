@@ -1,5 +1,4 @@
 use Rattle.listing.proofs.Laws.{dashed-is}
-use native.Mathlib.Omega.{arith}
 use borrow.Author.Needs.{needs}
 use Rattle.listing.proofs.dashed.Statement.{statement}
 use Rattle.listing.proofs.dashed.Tie as tie

@@ -1,5 +1,4 @@
 use Rattle.listing.proofs.Laws.{block-begins}
-use native.Mathlib.Omega.{arith}
 use borrow.Author.Needs.{needs}
 use Rattle.listing.proofs.has_block.Statement.{statement}
 use Rattle.listing.proofs.has_block.Tie as tie

@@ -1,5 +1,4 @@
 use Rattle.listing.proofs.Laws.{starts-beyond, starts-is, key-order, key-within}
-use native.Mathlib.Omega.{arith}
 use borrow.Author.Needs.{needs}
 use Rattle.listing.proofs.has_key.Statement.{statement}
 use Rattle.listing.proofs.has_key.Tie as tie

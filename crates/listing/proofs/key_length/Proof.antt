@@ -1,5 +1,4 @@
 use Rattle.listing.proofs.Laws.{length-beyond, length-is, key-order}
-use native.Mathlib.Omega.{arith}
 use borrow.Author.Needs.{needs}
 use Rattle.listing.proofs.key_length.Statement.{statement}
 use Rattle.listing.proofs.key_length.Tie as tie

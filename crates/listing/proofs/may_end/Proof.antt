@@ -1,5 +1,4 @@
 use Rattle.listing.proofs.Laws.{last-beyond, last-is}
-use native.Mathlib.Omega.{arith}
 use borrow.Author.Needs.{needs}
 use Rattle.listing.proofs.may_end.Statement.{statement}
 use Rattle.listing.proofs.may_end.Tie as tie

@@ -1,5 +1,4 @@
 use Rattle.listing.proofs.Laws.{next-beyond, next-none, next-is}
-use native.Mathlib.Omega.{arith}
 use borrow.Author.Needs.{needs}
 use Rattle.listing.proofs.next_place.Statement.{statement}
 use Rattle.listing.proofs.next_place.Tie as tie

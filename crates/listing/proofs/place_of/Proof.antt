@@ -3,10 +3,9 @@ use Rattle.paper.specs.Listing.{rowAt}
 use Rattle.paper.specs.Page.{placeOf}
 use mathlib.Core.Bool.{cond}
 use mathlib.Core.Path.{_≡_}
-use lib.ListN.{length, drop}
+use lib.ListN.{drop}
 use Prim.Native.Nat.{_-_, _≤_}
 use borrow.Author.Needs.{needs}
-use native.Mathlib.Omega.{arith}
 use Rattle.listing.proofs.place_of.Statement.{statement}
 use Rattle.listing.proofs.place_of.Tie as tie
 use Rattle.listing.proofs.place_of.Reads as reads

@@ -1,5 +1,4 @@
 use Rattle.listing.proofs.Laws.{value-beyond, value-is}
-use native.Mathlib.Omega.{arith}
 use borrow.Author.Needs.{needs}
 use Rattle.listing.proofs.value_at.Statement.{statement}
 use Rattle.listing.proofs.value_at.Tie as tie

@@ -1,5 +1,4 @@
 use Rattle.page.proofs.Laws.{walk-starts}
-use native.Mathlib.Omega.{arith}
 use borrow.Author.Needs.{needs}
 use Rattle.page.proofs.next_field.Statement.{statement}
 use Rattle.page.proofs.next_field.Tie as tie

@@ -1,4 +1,4 @@
-use Rattle.page.proofs.Laws.{part-from, part-to, walk-less, walk-line, walk-on, walk-further, walk-stays, line-fits, walk-skip, walk-stop, start-fits, start-end, walk-field, end-empty, end-right, end-missing}
+use Rattle.page.proofs.Laws.{part-from, part-to, walk-less, walk-line, walk-on, walk-further, walk-stays, line-fits, walk-skip, walk-stop, start-fits, start-end, walk-field, walk-ends, walk-ended}
 use Rattle.step.specs.Steps.{stateOf}
 use Rattle.paper.specs.Text.{lines}
 use Rattle.paper.specs.Page.{pageFrom}
@@ -6,15 +6,13 @@ use mathlib.Core.Path.{_≡_}
 use lib.ListN.{length, drop}
 use Prim.Native.Nat.{_-_, _+_, _≤_}
 use borrow.Author.Needs.{needs}
-use native.Mathlib.Omega.{arith}
 use Rattle.page.proofs.next_from.Statement.{statement}
 use Rattle.page.proofs.next_from.Tie as tie
 use Rattle.page.proofs.next_from.Reads as reads
 use Rattle.page.proofs.next_from.Lts as lts
 use Rattle.lines.proofs.line_at.Reads as line-at-reads
-use Rattle.listing.proofs.may_end.Reads as may-end-reads
+use Rattle.page.proofs.at_end.Reads as at-end-reads
 use Rattle.step.proofs.line_step.Reads as line-step-reads
-use Rattle.step.proofs.needs_block.Reads as needs-block-reads
 
 abbrev Inv-loop : tie.InvT-loop
 Inv-loop t st from n at₀ line₀ at line = (line ≤ at + 1) × (from ≤ at) × (pageFrom (stateOf st) line (lines (drop at t)) ≡ pageFrom (stateOf st) n (lines (drop from t)))
@@ -22,88 +20,76 @@ Inv-loop t st from n at₀ line₀ at line = (line ≤ at + 1) × (from ≤ at) 
 abbrev μ-loop : tie.MeasureT-loop
 μ-loop t st from n at₀ line₀ at line = length t - at
 
--- src/lib.rt:71:5
+-- src/lib.rt:90:5
 loop-holds : tie.Need-loop-holds Inv-loop μ-loop
 loop-holds c = search needs
 
--- src/lib.rt:72:13
+-- src/lib.rt:91:13
 line-at-requires : tie.Need-line-at-requires Inv-loop μ-loop
 line-at-requires c κs = search needs
 
--- src/lib.rt:75:41
+-- src/lib.rt:94:41
 sub-line-step : tie.Need-sub-line-step Inv-loop μ-loop
 sub-line-step c = search (needs, part-from)
 
--- src/lib.rt:75:41
+-- src/lib.rt:94:41
 part-line-step-start : tie.Need-part-line-step-start Inv-loop μ-loop
 part-line-step-start c = search (needs, part-from)
 
--- src/lib.rt:75:41
+-- src/lib.rt:94:41
 part-line-step-end : tie.Need-part-line-step-end Inv-loop μ-loop
 part-line-step-end c = search (needs, part-to)
 
--- src/lib.rt:75:15
+-- src/lib.rt:94:15
 line-step-requires : tie.Need-line-step-requires Inv-loop μ-loop
 line-step-requires c κs = search needs
 
 enum-told : tie.Need-enum-told Inv-loop μ-loop
 enum-told c = search needs
 
--- src/lib.rt:77:27
+-- src/lib.rt:96:27
 enum-known-place : tie.Need-enum-known-place Inv-loop μ-loop
 enum-known-place c = search needs
 
--- src/lib.rt:81:28
+-- src/lib.rt:100:28
 add-t21 : tie.Need-add-t21 Inv-loop μ-loop
 add-t21 c = search (needs, start-fits)
 
--- src/lib.rt:85:31
+-- src/lib.rt:104:31
 add-t22 : tie.Need-add-t22 Inv-loop μ-loop
 add-t22 c = search (needs, line-fits)
 
--- src/lib.rt:78:17
+-- src/lib.rt:97:17
 returns : tie.Need-returns Inv-loop μ-loop
 returns c = (search (needs, walk-field), (search (needs, start-end), search (needs, part-to), search (needs, walk-further), search (needs, walk-stays)))
 
--- src/lib.rt:90:26
+-- src/lib.rt:109:26
 enum-known-number : tie.Need-enum-known-number Inv-loop μ-loop
 enum-known-number c = search needs
 
--- src/lib.rt:91:17
+-- src/lib.rt:110:17
 returns-2 : tie.Need-returns-2 Inv-loop μ-loop
 returns-2 c = search (needs, walk-stop)
 
--- src/lib.rt:95:9
+-- src/lib.rt:114:9
 add-line : tie.Need-add-line Inv-loop μ-loop
 add-line c = search (needs, line-fits)
 
--- src/lib.rt:71:5
+-- src/lib.rt:90:5
 loop-less : tie.Need-loop-less Inv-loop μ-loop
 loop-less c = search (needs, walk-less)
 
--- src/lib.rt:71:5
+-- src/lib.rt:90:5
 loop-again : tie.Need-loop-again Inv-loop μ-loop
 loop-again c = (search (needs, walk-line), search (needs, walk-on), search (needs, walk-skip))
 
--- src/lib.rt:97:8
-needs-block-requires : tie.Need-needs-block-requires Inv-loop μ-loop
-needs-block-requires c κs = search needs
+-- src/lib.rt:116:5
+at-end-requires : tie.Need-at-end-requires Inv-loop μ-loop
+at-end-requires c κs = search needs
 
--- src/lib.rt:98:9
+-- src/lib.rt:84:1
 returns-3 : tie.Need-returns-3 Inv-loop μ-loop
-returns-3 c = search (needs, end-empty)
-
--- src/lib.rt:103:8
-may-end-requires : tie.Need-may-end-requires Inv-loop μ-loop
-may-end-requires c κs = search needs
-
--- src/lib.rt:104:9
-returns-4 : tie.Need-returns-4 Inv-loop μ-loop
-returns-4 c = search (needs, end-right)
-
--- src/lib.rt:65:1
-returns-5 : tie.Need-returns-5 Inv-loop μ-loop
-returns-5 c = search (needs, end-missing)
+returns-3 c = (search (needs, walk-ends), search (needs, walk-ended))
 
 pub next-from-spec : {M : Type 1} → statement M
 next-from-spec =
@@ -127,8 +113,5 @@ next-from-spec =
     add-line
     loop-less
     loop-again
-    needs-block-requires
-    returns-3
-    may-end-requires
-    returns-4
-    returns-5)
+    at-end-requires
+    returns-3)

@@ -3,10 +3,9 @@ use Rattle.page.proofs.Laws.{page-starts, page-again, page-ends, page-s
 use Rattle.page.specs.Walk.{pageLeft, refusalOf}
 use Rattle.paper.specs.Page.{pageOf}
 use mathlib.Core.Path.{_≡_}
-use lib.ListN.{length, drop}
-use Prim.Native.Nat.{_-_, _+_, _≤_}
+use lib.ListN.{length}
+use Prim.Native.Nat.{_-_, _≤_}
 use borrow.Author.Needs.{needs}
-use native.Mathlib.Omega.{arith}
 use Rattle.page.proofs.page_refusal.Statement.{statement}
 use Rattle.page.proofs.page_refusal.Tie as tie
 use Rattle.page.proofs.page_refusal.Reads as reads

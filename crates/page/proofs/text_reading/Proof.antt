@@ -1,5 +1,4 @@
 use Rattle.page.proofs.Text.{line-fits, reading-accepted, reading-refused}
-use native.Mathlib.Omega.{arith}
 use borrow.Author.Needs.{needs}
 use Rattle.page.proofs.text_reading.Statement.{statement}
 use Rattle.page.proofs.text_reading.Tie as tie

@@ -1,5 +1,4 @@
 use Rattle.page.proofs.Laws.{text-long, text-bad, text-page}
-use native.Mathlib.Omega.{arith}
 use borrow.Author.Needs.{needs}
 use Rattle.page.proofs.text_refusal.Statement.{statement}
 use Rattle.page.proofs.text_refusal.Tie as tie

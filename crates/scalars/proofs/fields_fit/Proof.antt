@@ -1,5 +1,4 @@
 use Rattle.scalars.proofs.Laws.{fields-path, fields-line, fields-no-line, fields-number, fields-are}
-use native.Mathlib.Omega.{arith}
 use borrow.Author.Needs.{needs}
 use Rattle.scalars.proofs.fields_fit.Statement.{statement}
 use Rattle.scalars.proofs.fields_fit.Tie as tie

@@ -1,5 +1,4 @@
 use Rattle.scalars.proofs.Laws.{no-domain-name, domain-name-is}
-use native.Mathlib.Omega.{arith}
 use borrow.Author.Needs.{needs}
 use Rattle.scalars.proofs.is_domain_name.Statement.{statement}
 use Rattle.scalars.proofs.is_domain_name.Tie as tie

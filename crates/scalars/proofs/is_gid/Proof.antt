@@ -1,5 +1,4 @@
 use Rattle.scalars.proofs.Laws.{gid-all, gid-is}
-use native.Mathlib.Omega.{arith}
 use borrow.Author.Needs.{needs}
 use Rattle.scalars.proofs.is_gid.Statement.{statement}
 use Rattle.scalars.proofs.is_gid.Tie as tie

@@ -1,5 +1,4 @@
 use Rattle.scalars.proofs.Laws.{identifier-empty, identifier-long, identifier-start, identifier-other, identifier-is}
-use native.Mathlib.Omega.{arith}
 use borrow.Author.Needs.{needs}
 use Rattle.scalars.proofs.is_identifier.Statement.{statement}
 use Rattle.scalars.proofs.is_identifier.Tie as tie

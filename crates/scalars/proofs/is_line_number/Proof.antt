@@ -1,5 +1,4 @@
 use Rattle.scalars.proofs.Laws.{number-empty, number-long, number-other, number-is}
-use native.Mathlib.Omega.{arith}
 use borrow.Author.Needs.{needs}
 use Rattle.scalars.proofs.is_line_number.Statement.{statement}
 use Rattle.scalars.proofs.is_line_number.Tie as tie

@@ -1,5 +1,4 @@
 use Rattle.scalars.proofs.Laws.{element-all, element-is}
-use native.Mathlib.Omega.{arith}
 use borrow.Author.Needs.{needs}
 use Rattle.scalars.proofs.is_pattern_element.Statement.{statement}
 use Rattle.scalars.proofs.is_pattern_element.Tie as tie

@@ -1,6 +1,5 @@
 use Rattle.scalars.proofs.Laws.{scalar-domain, scalar-uid, scalar-gid, scalar-subject, scalar-object, scalar-element}
 use Rattle.scalars.proofs.Laws.{scalar-domain, scalar-uid, scalar-gid, scalar-subject, scalar-object}
-use native.Mathlib.Omega.{arith}
 use borrow.Author.Needs.{needs}
 use Rattle.scalars.proofs.is_scalar.Statement.{statement}
 use Rattle.scalars.proofs.is_scalar.Tie as tie

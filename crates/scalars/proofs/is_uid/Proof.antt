@@ -1,5 +1,4 @@
 use Rattle.scalars.proofs.Laws.{uid-root, uid-user, uid-all, uid-is}
-use native.Mathlib.Omega.{arith}
 use borrow.Author.Needs.{needs}
 use Rattle.scalars.proofs.is_uid.Statement.{statement}
 use Rattle.scalars.proofs.is_uid.Tie as tie

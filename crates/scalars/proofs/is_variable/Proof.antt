@@ -1,5 +1,4 @@
 use Rattle.scalars.proofs.Laws.{variable-no-word, variable-all, variable-root, variable-is}
-use native.Mathlib.Omega.{arith}
 use borrow.Author.Needs.{needs}
 use Rattle.scalars.proofs.is_variable.Statement.{statement}
 use Rattle.scalars.proofs.is_variable.Tie as tie

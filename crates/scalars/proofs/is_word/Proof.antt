@@ -1,5 +1,4 @@
 use Rattle.scalars.proofs.Laws.{word-empty, word-long, word-is}
-use native.Mathlib.Omega.{arith}
 use borrow.Author.Needs.{needs}
 use Rattle.scalars.proofs.is_word.Statement.{statement}
 use Rattle.scalars.proofs.is_word.Tie as tie

@@ -1,5 +1,4 @@
 use Rattle.scalars.proofs.Laws.{meets-needed, meets-absent, meets-free}
-use native.Mathlib.Omega.{arith}
 use borrow.Author.Needs.{needs}
 use Rattle.scalars.proofs.meets.Statement.{statement}
 use Rattle.scalars.proofs.meets.Tie as tie

@@ -1,5 +1,4 @@
 use Rattle.scalars.proofs.Laws.{object-one, object-two, object-three, object-more, object-are}
-use native.Mathlib.Omega.{arith}
 use borrow.Author.Needs.{needs}
 use Rattle.scalars.proofs.object_parts_fit.Statement.{statement}
 use Rattle.scalars.proofs.object_parts_fit.Tie as tie

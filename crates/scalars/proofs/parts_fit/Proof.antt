@@ -1,5 +1,4 @@
 use Rattle.scalars.proofs.Laws.{parts-subject, parts-object}
-use native.Mathlib.Omega.{arith}
 use borrow.Author.Needs.{needs}
 use Rattle.scalars.proofs.parts_fit.Statement.{statement}
 use Rattle.scalars.proofs.parts_fit.Tie as tie

@@ -1,5 +1,4 @@
 use Rattle.scalars.proofs.Laws.{sort-global, sort-io, sort-heap, sort-region, sort-frame, sort-other, sort-none}
-use native.Mathlib.Omega.{arith}
 use borrow.Author.Needs.{needs}
 use Rattle.scalars.proofs.sort_fits.Statement.{statement}
 use Rattle.scalars.proofs.sort_fits.Tie as tie

@@ -1,5 +1,4 @@
 use Rattle.scalars.proofs.Laws.{subject-one, subject-more, subject-left, subject-are}
-use native.Mathlib.Omega.{arith}
 use borrow.Author.Needs.{needs}
 use Rattle.scalars.proofs.subject_parts_fit.Statement.{statement}
 use Rattle.scalars.proofs.subject_parts_fit.Tie as tie

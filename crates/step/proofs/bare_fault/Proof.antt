@@ -1,5 +1,4 @@
 use Rattle.step.proofs.Laws.{bare-block, bare-none, bare-wrong}
-use native.Mathlib.Omega.{arith}
 use borrow.Author.Needs.{needs}
 use Rattle.step.proofs.bare_fault.Statement.{statement}
 use Rattle.step.proofs.bare_fault.Tie as tie

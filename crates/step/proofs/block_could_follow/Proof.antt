@@ -1,5 +1,4 @@
 use Rattle.step.proofs.Laws.{follow-full, follow-bare}
-use native.Mathlib.Omega.{arith}
 use borrow.Author.Needs.{needs}
 use Rattle.step.proofs.block_could_follow.Statement.{statement}
 use Rattle.step.proofs.block_could_follow.Tie as tie

@@ -1,5 +1,4 @@
 use Rattle.step.proofs.Laws.{block-here, block-else}
-use native.Mathlib.Omega.{arith}
 use borrow.Author.Needs.{needs}
 use Rattle.step.proofs.in_block.Statement.{statement}
 use Rattle.step.proofs.in_block.Tie as tie

@@ -1,5 +1,4 @@
 use Rattle.step.proofs.Laws.{empty-here, empty-else}
-use native.Mathlib.Omega.{arith}
 use borrow.Author.Needs.{needs}
 use Rattle.step.proofs.left_empty.Statement.{statement}
 use Rattle.step.proofs.left_empty.Tie as tie

@@ -1,5 +1,4 @@
 use Rattle.step.proofs.Laws.{line-skipped, line-empty, line-open, line-place}
-use native.Mathlib.Omega.{arith}
 use borrow.Author.Needs.{needs}
 use Rattle.step.proofs.line_step.Statement.{statement}
 use Rattle.step.proofs.line_step.Tie as tie

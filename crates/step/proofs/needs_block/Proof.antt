@@ -1,5 +1,4 @@
 use Rattle.step.proofs.Laws.{needs-none, needs-is}
-use native.Mathlib.Omega.{arith}
 use borrow.Author.Needs.{needs}
 use Rattle.step.proofs.needs_block.Statement.{statement}
 use Rattle.step.proofs.needs_block.Tie as tie

@@ -1,5 +1,4 @@
 use Rattle.step.proofs.Laws.{value-short, value-space, value-spaces, value-is}
-use native.Mathlib.Omega.{arith}
 use borrow.Author.Needs.{needs}
 use Rattle.step.proofs.one_space_and_value.Statement.{statement}
 use Rattle.step.proofs.one_space_and_value.Tie as tie

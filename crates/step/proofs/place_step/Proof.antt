@@ -1,5 +1,4 @@
-use Rattle.step.proofs.Laws.{place-none, place-stop, place-bare, place-field, place-room}
-use native.Mathlib.Omega.{arith}
+use Rattle.step.proofs.Laws.{place-none, place-stop, place-bare, place-field}
 use borrow.Author.Needs.{needs}
 use Rattle.step.proofs.place_step.Statement.{statement}
 use Rattle.step.proofs.place_step.Tie as tie

@@ -1,5 +1,4 @@
-use Rattle.step.proofs.Laws.{rest-bare, rest-layout, rest-value, rest-room}
-use native.Mathlib.Omega.{arith}
+use Rattle.step.proofs.Laws.{rest-bare, rest-layout, rest-value}
 use borrow.Author.Needs.{needs}
 use Rattle.step.proofs.rest_fault.Statement.{statement}
 use Rattle.step.proofs.rest_fault.Tie as tie

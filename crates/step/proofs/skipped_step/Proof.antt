@@ -1,5 +1,4 @@
 use Rattle.step.proofs.Laws.{skip-ended, skip-empty, skip-open}
-use native.Mathlib.Omega.{arith}
 use borrow.Author.Needs.{needs}
 use Rattle.step.proofs.skipped_step.Statement.{statement}
 use Rattle.step.proofs.skipped_step.Tie as tie

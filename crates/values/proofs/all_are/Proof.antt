@@ -7,7 +7,6 @@ use mathlib.Core.Path.{_≡_}
 use lib.ListN.{length, drop}
 use Prim.Native.Nat.{_-_, _≤_}
 use borrow.Author.Needs.{needs}
-use native.Mathlib.Omega.{arith}
 use Rattle.values.proofs.all_are.Statement.{statement}
 use Rattle.values.proofs.all_are.Tie as tie
 use Rattle.values.proofs.all_are.Reads as reads

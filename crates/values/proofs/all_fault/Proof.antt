@@ -1,5 +1,4 @@
 use Rattle.values.proofs.Laws.{all-right, all-wrong}
-use native.Mathlib.Omega.{arith}
 use borrow.Author.Needs.{needs}
 use Rattle.values.proofs.all_fault.Statement.{statement}
 use Rattle.values.proofs.all_fault.Tie as tie

@@ -1,5 +1,4 @@
 use Rattle.values.proofs.Laws.{all-none-all, all-none-else}
-use native.Mathlib.Omega.{arith}
 use borrow.Author.Needs.{needs}
 use Rattle.values.proofs.all_none_fault.Statement.{statement}
 use Rattle.values.proofs.all_none_fault.Tie as tie

@@ -1,5 +1,4 @@
 use Rattle.values.proofs.Laws.{bare-keys, bare-none, bare-all, bare-all-none, bare-one, bare-list, bare-some, bare-list-or-all}
-use native.Mathlib.Omega.{arith}
 use borrow.Author.Needs.{needs}
 use Rattle.values.proofs.bare_is_none.Statement.{statement}
 use Rattle.values.proofs.bare_is_none.Tie as tie

@@ -1,5 +1,4 @@
 use Rattle.values.proofs.Laws.{bracketed-short, bracketed-open, bracketed-close}
-use native.Mathlib.Omega.{arith}
 use borrow.Author.Needs.{needs}
 use Rattle.values.proofs.bracketed.Statement.{statement}
 use Rattle.values.proofs.bracketed.Tie as tie

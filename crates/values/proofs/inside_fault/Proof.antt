@@ -1,5 +1,4 @@
 use Rattle.values.proofs.Laws.{inside-unspaced, inside-spaced, inside-none, inside-right, inside-wrong}
-use native.Mathlib.Omega.{arith}
 use borrow.Author.Needs.{needs}
 use Rattle.values.proofs.inside_fault.Statement.{statement}
 use Rattle.values.proofs.inside_fault.Tie as tie

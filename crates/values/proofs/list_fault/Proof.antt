@@ -1,5 +1,4 @@
 use Rattle.values.proofs.Laws.{list-none, list-is, list-one, list-two}
-use native.Mathlib.Omega.{arith}
 use borrow.Author.Needs.{needs}
 use Rattle.values.proofs.list_fault.Statement.{statement}
 use Rattle.values.proofs.list_fault.Tie as tie

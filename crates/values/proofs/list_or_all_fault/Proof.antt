@@ -1,5 +1,4 @@
 use Rattle.values.proofs.Laws.{list-all, list-else}
-use native.Mathlib.Omega.{arith}
 use borrow.Author.Needs.{needs}
 use Rattle.values.proofs.list_or_all_fault.Statement.{statement}
 use Rattle.values.proofs.list_or_all_fault.Tie as tie

@@ -1,5 +1,4 @@
 use Rattle.values.proofs.Laws.{none-right, none-wrong}
-use native.Mathlib.Omega.{arith}
 use borrow.Author.Needs.{needs}
 use Rattle.values.proofs.none_fault.Statement.{statement}
 use Rattle.values.proofs.none_fault.Tie as tie

@@ -1,5 +1,4 @@
 use Rattle.values.proofs.Laws.{scalar-right, scalar-wrong}
-use native.Mathlib.Omega.{arith}
 use borrow.Author.Needs.{needs}
 use Rattle.values.proofs.scalar_fault.Statement.{statement}
 use Rattle.values.proofs.scalar_fault.Tie as tie

@@ -1,5 +1,4 @@
 use Rattle.values.proofs.Laws.{some-none, some-is}
-use native.Mathlib.Omega.{arith}
 use borrow.Author.Needs.{needs}
 use Rattle.values.proofs.some_fault.Statement.{statement}
 use Rattle.values.proofs.some_fault.Tie as tie

@@ -1,6 +1,5 @@
 use Rattle.values.proofs.Laws.{fits-behind, fits-else}
 use borrow.Author.Needs.{needs}
-use native.Mathlib.Omega.{arith}
 use Rattle.values.proofs.space_fits.Statement.{statement}
 use Rattle.values.proofs.space_fits.Tie as tie
 use Rattle.values.proofs.space_fits.Reads as reads

@@ -4,7 +4,6 @@ use mathlib.Core.Path.{_≡_}
 use lib.ListN.{length, drop}
 use Prim.Native.Nat.{_-_}
 use borrow.Author.Needs.{needs}
-use native.Mathlib.Omega.{arith}
 use Rattle.values.proofs.spaced.Statement.{statement}
 use Rattle.values.proofs.spaced.Tie as tie
 use Rattle.values.proofs.spaced.Reads as reads

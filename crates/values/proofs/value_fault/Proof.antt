@@ -1,5 +1,4 @@
 use Rattle.values.proofs.Laws.{value-keys, value-none, value-all, value-all-none, value-one, value-list, value-some, value-list-or-all}
-use native.Mathlib.Omega.{arith}
 use borrow.Author.Needs.{needs}
 use Rattle.values.proofs.value_fault.Statement.{statement}
 use Rattle.values.proofs.value_fault.Tie as tie

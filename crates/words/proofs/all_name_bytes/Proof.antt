@@ -5,7 +5,6 @@ use lib.ListN.{length, drop}
 use Prim.Native.Nat.{_-_}
 use Rattle.laws.proofs.Bytes.{all-again, all-fails, all-ends}
 use borrow.Author.Needs.{needs}
-use native.Mathlib.Omega.{arith}
 use Rattle.words.proofs.all_name_bytes.Statement.{statement}
 use Rattle.words.proofs.all_name_bytes.Tie as tie
 use Rattle.words.proofs.all_name_bytes.Reads as reads

@@ -1,10 +1,9 @@
 use Rattle.laws.specs.Pieces.{before}
 use mathlib.Core.Path.{_≡_}
 use lib.ListN.{length, drop}
-use Prim.Native.Nat.{_≤_, _-_, _+_}
+use Prim.Native.Nat.{_-_, _+_}
 use Rattle.laws.proofs.Bytes.{find-again, find-here, find-ends}
 use borrow.Author.Needs.{needs}
-use native.Mathlib.Omega.{arith}
 use Rattle.words.proofs.find.Statement.{statement}
 use Rattle.words.proofs.find.Tie as tie
 use Rattle.words.proofs.find.Reads as reads

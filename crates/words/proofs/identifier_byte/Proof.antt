@@ -1,5 +1,4 @@
 use Rattle.words.proofs.Laws.{identifier-out, identifier-else}
-use native.Mathlib.Omega.{arith}
 use borrow.Author.Needs.{needs}
 use Rattle.words.proofs.identifier_byte.Statement.{statement}
 use Rattle.words.proofs.identifier_byte.Tie as tie

@@ -1,5 +1,4 @@
 use Rattle.words.proofs.Laws.{first-letter, first-digit, first-else}
-use native.Mathlib.Omega.{arith}
 use borrow.Author.Needs.{needs}
 use Rattle.words.proofs.identifier_first.Statement.{statement}
 use Rattle.words.proofs.identifier_first.Tie as tie

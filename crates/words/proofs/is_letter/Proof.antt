@@ -1,5 +1,4 @@
 use Rattle.words.proofs.Laws.{capital, small}
-use native.Mathlib.Omega.{arith}
 use borrow.Author.Needs.{needs}
 use Rattle.words.proofs.is_letter.Statement.{statement}
 use Rattle.words.proofs.is_letter.Tie as tie

@@ -1,5 +1,4 @@
 use Rattle.words.proofs.Laws.{name-letter, name-digit, name-else}
-use native.Mathlib.Omega.{arith}
 use borrow.Author.Needs.{needs}
 use Rattle.words.proofs.name_byte.Statement.{statement}
 use Rattle.words.proofs.name_byte.Tie as tie

@@ -2,10 +2,9 @@ use Rattle.paper.specs.Common.{anyOf}
 use mathlib.Core.Path.{_≡_}
 use lib.Dec.{eqb}
 use lib.ListN.{length, drop}
-use Prim.Native.Nat.{_≤_, _-_}
+use Prim.Native.Nat.{_-_}
 use Rattle.laws.proofs.Bytes.{any-again, any-found, any-ends}
 use borrow.Author.Needs.{needs}
-use native.Mathlib.Omega.{arith}
 use Rattle.words.proofs.one_of.Statement.{statement}
 use Rattle.words.proofs.one_of.Tie as tie
 use Rattle.words.proofs.one_of.Reads as reads

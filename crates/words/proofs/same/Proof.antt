@@ -4,7 +4,6 @@ use lib.ListN.{length, drop}
 use Prim.Native.Nat.{_≤_, _-_}
 use Rattle.laws.proofs.Tests.{same-lengths, same-differs, same-again, same-ends}
 use borrow.Author.Needs.{needs}
-use native.Mathlib.Omega.{arith}
 use Rattle.words.proofs.same.Statement.{statement}
 use Rattle.words.proofs.same.Tie as tie
 use Rattle.words.proofs.same.Reads as reads

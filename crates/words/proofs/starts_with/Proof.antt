@@ -4,7 +4,6 @@ use lib.ListN.{length, drop}
 use Prim.Native.Nat.{_≤_, _-_}
 use Rattle.laws.proofs.Bytes.{starts-short, starts-differs, starts-again, starts-ends}
 use borrow.Author.Needs.{needs}
-use native.Mathlib.Omega.{arith}
 use Rattle.words.proofs.starts_with.Statement.{statement}
 use Rattle.words.proofs.starts_with.Tie as tie
 use Rattle.words.proofs.starts_with.Reads as reads

@@ -1,6 +1,5 @@
 use Rattle.words.proofs.Laws.{within-below, within-else}
 use borrow.Author.Needs.{needs}
-use native.Mathlib.Omega.{arith}
 use Rattle.words.proofs.within.Statement.{statement}
 use Rattle.words.proofs.within.Tie as tie
 use Rattle.words.proofs.within.Reads as reads
