@@ -1,9 +1,10 @@
 -- Places in a list of numbers.
 use mathlib.Core.Path.{_≡_}
 use mathlib.Core.List.{List, [], _∷_}
-use Prim.Native.Nat.{ℕ, zero, suc, _+_, _<_}
+use Prim.Native.Nat.{ℕ, zero, suc, _+_, _-_, _<_}
+use native.Mathlib.Nat.{sub-zero, suc-sub-suc, zero-sub}
 use native.Mathlib.Numerals.{add-one}
-use lib.ListN.{length, drop, getD, set}
+use lib.ListN.{length, drop, getD, set, replicate}
 use lib.Seq.{drop-cons}
 
 pub drop-more : (l : List ℕ) (i : ℕ) → i < length l → drop i l ≡ getD l i 0 ∷ drop (i + 1) l
@@ -16,3 +17,9 @@ below-after-set (x ∷ xs) b zero v below h zero = h
 below-after-set (x ∷ xs) b zero v below h (suc k) = below (suc k)
 below-after-set (x ∷ xs) b (suc i) v below h zero = below 0
 below-after-set (x ∷ xs) b (suc i) v below h (suc k) = below-after-set xs b i v (λ n. below (suc n)) h k
+
+-- zeros are left where some are dropped
+pub drop-zeros : (m n : ℕ) → drop {A = ℕ} n (replicate m 0) ≡ replicate (m - n) 0
+drop-zeros m zero = rw sub-zero
+drop-zeros zero (suc n) = rw zero-sub
+drop-zeros (suc m) (suc n) = rw suc-sub-suc (drop-zeros m n)

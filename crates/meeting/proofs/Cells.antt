@@ -2,29 +2,21 @@
 use Prim.Native.Nat.{ℕ, zero, suc, _+_, _-_, _/_, _%_, _<_, _≤_}
 use native.Mathlib.Omega.{arith}
 use mathlib.Core.Path.{_≡_, refl, sym, ap, subst, subst₂, _∙_}
-use mathlib.Core.Bool.{Bool, true, false, _&&_}
+use mathlib.Core.Bool.{Bool, _&&_}
 use mathlib.Core.List.{List, [], _∷_, map}
 use lib.ListN.{length, getD, drop, set, length-drop, length-map}
 use lib.Seq.{getD-set-same, getD-set-other}
 use mathlib.Core.Logic.{_⊎_, inl, inr, _≢_}
 use native.Mathlib.Nat.{eq-or-lt-of-le, not-le-of-lt}
-use lib.Dec.{eqb}
-use borrow.Author.Tests.{eqb-true, eqb-false}
 use Rattle.paper.specs.Policy.{Element}
 use Rattle.paper.specs.Match.{matches}
 use Rattle.paper.specs.Table.{elementIn}
 use Rattle.meeting.specs.Best.{step, row, bestBy, comesFirst, inDomain, alone, bestFrom}
 use Rattle.meeting.specs.Cells.{stackAt, stackOf, After, Filled}
+use Rattle.laws.proofs.Tests.{same-or-not}
 use Rattle.laws.proofs.Elements.{at-element, at-end}
 use Rattle.meeting.proofs.Order.{bestFrom-short}
 use Rattle.meeting.proofs.Chains.{stack-length, at-of}
-
-same-or-not : (x k : ℕ) → (x ≡ k) ⊎ (x ≡ k → ⊥)
-same-or-not x k = go (eqb x k) refl
-  where
-    go : (t : Bool) → eqb x k ≡ t → (x ≡ k) ⊎ (x ≡ k → ⊥)
-    go true e = inl (eqb-true x k e)
-    go false e = inr (eqb-false x k e)
 
 module _ (F : List ℕ) (d low : ℕ) (P Q : List ℕ) (i j : ℕ) where
   -- the best stack of the patterns from two places on

@@ -2,7 +2,7 @@
 use Prim.Native.Nat.{ℕ, zero, suc, _+_, _-_, _<_, _≤_}
 use native.Mathlib.Omega.{arith}
 use native.Mathlib.Nat.{add-zero, eq-or-lt-of-le}
-use mathlib.Core.Logic.{_⊎_, inl, inr, ⊎-elim}
+use mathlib.Core.Logic.{_⊎_, ⊎-elim}
 use mathlib.Core.Path.{_≡_, refl, sym, _∙_}
 use mathlib.Core.Bool.{Bool, true, false, _&&_, false≢true}
 use mathlib.Core.List.{List, [], map}
@@ -13,10 +13,7 @@ use Rattle.paper.specs.Table.{elementIn}
 use Rattle.paper.specs.Match.{swallowing, firstEquals, matches}
 use Rattle.laws.proofs.Elements.{at-all, at-fn, at-end}
 use Rattle.meeting.specs.Cells.{EndsFrom}
-use Rattle.meeting.proofs.Order.{le-or-lt}
-
-lt-or-le : (a b : ℕ) → (a < b) ⊎ (b ≤ a)
-lt-or-le a b = ⊎-elim (λ h. inr h) (λ h. inl h) (le-or-lt b a)
+use Rattle.laws.proofs.Tests.{le-or-lt}
 
 module _ (p : List ℕ) (i : ℕ) where
   -- the pattern from place i on matches the empty stack
@@ -37,7 +34,7 @@ module _ (p : List ℕ) (i : ℕ) where
 
 module _ (p : List ℕ) where
   ends-next : (i : ℕ) → ends p i ≡ true → ends p (i + 1) ≡ true
-  ends-next i h = ⊎-elim inside (λ l. ends-at-end p (i + 1) (omega arith)) (lt-or-le i (length p))
+  ends-next i h = ⊎-elim (λ l. ends-at-end p (i + 1) (omega arith)) inside (le-or-lt (length p) i)
     where
       inside : i < length p → ends p (i + 1) ≡ true
       inside l = go (eqb (getD p i 0) 0) refl
@@ -76,7 +73,7 @@ module _ (p : List ℕ) where
 
       pub end-found : (getD p (k - 1) 0 ≡ 0 → ⊥) → EndsFrom p k
       unfolding EndedFrom EndsFrom
-      end-found n i = ⊎-elim (λ h. not-before n i h (ends p i) refl ∙ sym (lt-leb k i h)) (λ h. so-far i h ∙ sym (le-leb k i h)) (lt-or-le i k)
+      end-found n i = ⊎-elim (λ h. so-far i h ∙ sym (le-leb k i h)) (λ h. not-before n i h (ends p i) refl ∙ sym (lt-leb k i h)) (le-or-lt k i)
 
 -- ---- a cell
 pub last-told : (P Q : List ℕ) (x y i j : ℕ) (t : Bool) → EndsFrom P x → EndsFrom Q y → t ≡ (leb x i && leb y j) → t ≡ (matches (map elementIn (drop i P)) [] && matches (map elementIn (drop j Q)) [])

@@ -8,20 +8,13 @@ use mathlib.Core.Path.{_≡_, refl, sym, ap, _∙_}
 use mathlib.Core.Bool.{Bool, true, false, _&&_, _||_, cond, false≢true}
 use mathlib.Core.List.{List, [], _∷_}
 use lib.ListN.{length, getD}
-use lib.Dec.{eqb, ltb, leb}
-use borrow.Author.Tests.{eqb-true, eqb-false, eq-eqb, ltb-true, ltb-false, lt-ltb, leb-true, leb-false}
+use lib.Dec.{eqb, ltb}
+use borrow.Author.Tests.{eqb-true, eqb-false, eq-eqb, ltb-true, ltb-false, lt-ltb}
 use Rattle.paper.specs.Policy.{Element, all}
 use Rattle.paper.specs.Match.{matches}
 use Rattle.meeting.specs.Best.{topPasses, Meet, lowerOrSame, comesFirst, NotAbove, NotAfter, inDomain, alone, firstIn, bestFrom, bestStack}
-use Rattle.laws.proofs.Tests.{both-true, both-of, either-of}
+use Rattle.laws.proofs.Tests.{le-or-lt, both-true, both-of, either-of}
 use Rattle.meeting.proofs.Best.{Some, Good, AtMost, sound, short, least, all-keep, all-none}
-
-pub le-or-lt : (a b : ℕ) → (a ≤ b) ⊎ (b < a)
-le-or-lt a b = go (leb a b) refl
-  where
-    go : (t : Bool) → leb a b ≡ t → (a ≤ b) ⊎ (b < a)
-    go true e = inl (leb-true a b e)
-    go false e = inr (leb-false a b e)
 
 lower-true : (u v : List ℕ) → lowerOrSame u v ≡ true → NotAbove u v
 unfolding lowerOrSame NotAbove

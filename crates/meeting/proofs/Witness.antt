@@ -1,7 +1,6 @@
 -- From the cells to the witness.
 use Prim.Native.Nat.{ℕ, zero, suc, _+_, _-_, _<_, _≤_}
 use native.Mathlib.Omega.{arith}
-use native.Mathlib.Nat.{sub-zero, suc-sub-suc, zero-sub}
 use mathlib.Core.Path.{_≡_, sym, ap, _∙_}
 use mathlib.Core.Bool.{true, false, and-false}
 use mathlib.Core.List.{List, _++_, map, append-assoc}
@@ -10,6 +9,7 @@ use lib.Seq.{drop-append-le}
 use borrow.Author.Tests.{le-leb, lt-leb}
 use Rattle.paper.specs.Table.{elementIn, padded}
 use Rattle.paper.specs.Overlap.{witnessLeft}
+use Rattle.laws.proofs.Places.{drop-zeros}
 use Rattle.meeting.specs.Best.{firstIn, bestFrom, bestStack, fits}
 use Rattle.meeting.specs.Cells.{stackAt, Filled}
 use Rattle.meeting.proofs.Order.{bestFrom-short}
@@ -19,11 +19,6 @@ pub zeros-below : (n k : ℕ) → getD (replicate n 0) k 0 < 289
 zeros-below zero k = omega arith
 zeros-below (suc n) zero = omega arith
 zeros-below (suc n) (suc k) = zeros-below n k
-
-drop-zeros : (m n : ℕ) → drop {A = ℕ} n (replicate m 0) ≡ replicate (m - n) 0
-drop-zeros m zero = rw sub-zero
-drop-zeros zero (suc n) = rw zero-sub
-drop-zeros (suc m) (suc n) = rw suc-sub-suc (drop-zeros m n)
 
 -- n frames over the first of 32 zeros
 over-zeros : (S old mid new : List ℕ) (n : ℕ) → length S ≡ n → n ≤ 32 → mid ≡ replicate 32 0 ++ drop 32 old → new ≡ S ++ drop n mid → new ≡ witnessLeft S old

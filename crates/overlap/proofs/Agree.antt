@@ -13,8 +13,9 @@ use Rattle.paper.specs.Policy.{Policy}
 use Rattle.paper.specs.Table.{padded, policyIn}
 use Rattle.paper.specs.Overlap.{PairBefore, FirstClash, Says, witnessLeft}
 use Rattle.paper.specs.Promises.{reportRefusal, ReportedUnless, Reported}
+use Rattle.laws.proofs.Tests.{le-or-lt}
 use Rattle.laws.proofs.Stretches.{length-padded}
-use Rattle.meeting.proofs.Order.{le-or-lt, after-anti}
+use Rattle.meeting.proofs.Order.{after-anti}
 use Rattle.overlap.specs.Told.{Least}
 use Rattle.overlap.specs.Agree.{AgreeButStack}
 
