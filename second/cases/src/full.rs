@@ -30,6 +30,60 @@ pub fn policy(dice: &mut Dice) -> Policy {
     policy
 }
 
+/// 128 entries of one subject, with full patterns, no two of which match one
+/// stack: each ends in a function of its own, so that the overlap report
+/// searches every pair to its end.
+pub fn clear_policy() -> Policy {
+    let pattern = |last: usize| {
+        let one = |place: usize| match place % 2 {
+            0 => Element::All,
+            _ => Element::Function((place / 2) as u16),
+        };
+        let mut elements: Vec<Element> = (0..ELEMENTS - 1).map(one).collect();
+        elements.push(Element::Function(last as u16));
+        elements
+    };
+    let entry = |last| Entry {
+        subject: 0,
+        context: Context {
+            pattern: pattern(last),
+            ..Context::all()
+        },
+        can_call: Grant::All,
+        can_return: Grant::All,
+        can_read: Vec::new(),
+        can_write: Vec::new(),
+    };
+    Policy {
+        object_domains: 0,
+        subject_domains: 1,
+        objects: Vec::new(),
+        functions: vec![0; ENTRIES],
+        entries: (0..ENTRIES).map(entry).collect(),
+    }
+}
+
+/// A page in order that is as long as a text may be: one domain after another,
+/// each with a few members.
+pub fn long_page() -> Vec<u8> {
+    let mut text = b"object_map: []\nsubject_map:\n".to_vec();
+    let end = b"privileges: []\n";
+    let mut number = 0;
+    loop {
+        let domain =
+            format!("- name: Domain{number}\n  subjects: [src/f.c|f{number}, src/g.c|g{number}]\n");
+        if text.len() + domain.len() + end.len() > 65_536 {
+            break;
+        }
+        text.extend(domain.bytes());
+        number += 1;
+    }
+    text.extend(end);
+    text.resize(65_535, b' ');
+    text.push(b'\n');
+    text
+}
+
 fn entry(dice: &mut Dice) -> Entry {
     let context = Context {
         pattern: pattern(dice),

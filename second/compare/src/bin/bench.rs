@@ -1,7 +1,9 @@
-//! `bench`: how long the plain judge and the proved one take for an event.
+//! `bench`: how long the plain program and the proved one take: for an event, a
+//! report and a page.
 //!
 //! Both judge the same events under the same table, which has 128 entries and
-//! 256 descriptors. The proved one is timed inside the bridge, so that no pipe
+//! 256 descriptors; both report on a table of 128 full patterns of one subject
+//! with no clash, and read a page of 65,536 bytes. The proved one is timed inside the bridge, so that no pipe
 //! is measured.
 #![forbid(unsafe_code)]
 
@@ -10,7 +12,7 @@ use cases::{full, Dice};
 use compare::wire::{Call, Function, Replies, Requests};
 use compare::{judge, Bridge};
 use second::judge::judge_policy;
-use second::{decode, encode, Verdict};
+use second::{decode, encode, Refusal, Verdict};
 use std::hint::black_box;
 use std::process::ExitCode;
 use std::time::Instant;
@@ -97,6 +99,8 @@ fn bench(asked: &Asked) -> Result<(), String> {
     let proved = proved_timed(&mut bridge, Function::WellFormed, &tests)?;
     row(name, &plain, &proved, bridge.emulated)?;
 
+    report_and_page(&mut bridge)?;
+
     for (stacks, least, most) in [("1 to 8 frames", 1, 8), ("64 frames", 64, 64)] {
         let one = |_| {
             let frames = dice.from_to(least, most);
@@ -129,6 +133,33 @@ fn bench(asked: &Asked) -> Result<(), String> {
         row(&name, &plain, &proved, bridge.emulated)?;
     }
     Ok(())
+}
+
+/// The overlap report of a table without a clash, and the page of a long text.
+fn report_and_page(bridge: &mut Bridge) -> Result<(), String> {
+    let words = encode(&full::clear_policy()).ok_or("no table")?;
+    let text = full::long_page();
+    let mut lent = Requests::default();
+    lent.lend(1, &words);
+    lent.lend(2, &[0u16; 32]);
+    lent.lend(3, &text);
+    exchange(bridge, lent)?;
+
+    let reports = vec![Call::new(Function::Overlap, &[1, 2], &[]); 2];
+    let plain = timed(reports.len(), || {
+        let one = |_| second::overlap(black_box(&words), &mut [0; 32]).packed();
+        reports.iter().map(one).sum()
+    });
+    let proved = proved_timed(bridge, Function::Overlap, &reports)?;
+    row("the report, no clash", &plain, &proved, bridge.emulated)?;
+
+    let pages = vec![Call::new(Function::Page, &[3], &[]); 50];
+    let plain = timed(pages.len(), || {
+        let one = |_| Refusal::packed(second::first_fault(black_box(&text)));
+        pages.iter().map(one).sum()
+    });
+    let proved = proved_timed(bridge, Function::Page, &pages)?;
+    row("a page of 65,536 bytes", &plain, &proved, bridge.emulated)
 }
 
 /// Nanoseconds for one call, and the sum of all answers.
