@@ -1,11 +1,9 @@
 -- Demand 2 as the user wrote it: "An access is allowed exactly when both ends are listed and it stays inside one subject domain as a call
 -- or return, or some entry that matches subject, stack, uid and gid grants it." And: any two answers that meet the promise are equal.
-use mathlib.Core.Path.{_≡_, refl, sym, ap, _∙_}
+use mathlib.Core.Path.{_≡_, refl, sym, _∙_}
 use mathlib.Core.Bool.{Bool, true, false, cond, not, _&&_, _||_}
-use mathlib.Core.Logic.{_⊎_, inl, inr}
 use mathlib.Core.List.{List, [], _∷_}
 use Prim.Native.Nat.{ℕ, _+_}
-use native.Mathlib.Omega.{arith}
 use lib.ListN.{getD}
 use Rattle.paper.specs.Common.{anyOf}
 use Rattle.paper.specs.declared.Access.{Access}

@@ -1,7 +1,7 @@
 -- What the functions of this crate need, as plain laws: the facts that a place in the code has, and what is to be shown there.
 use mathlib.Core.Path.{_≡_, refl, sym, ap, _∙_}
 use mathlib.Core.Bool.{Bool, true, false, cond, not, _&&_, _||_, and-false}
-use mathlib.Core.List.{List, [], _∷_, map}
+use mathlib.Core.List.{List, [], map}
 use Prim.Native.Nat.{ℕ, zero, suc, _+_, _*_, _-_, _<_, _≤_}
 use native.Mathlib.Omega.{arith}
 use native.Mathlib.Nat.{add-assoc, zero-add}
@@ -16,14 +16,13 @@ use Rattle.paper.specs.declared.Access.{Access}
 use Rattle.paper.specs.declared.Access.the-variants.{Read, Write, Call, Return}
 use Rattle.paper.specs.declared.Verdict.{Verdict}
 use Rattle.paper.specs.declared.Verdict.the-variants.{Inside, Granted, Violation, Unjudged}
-use Rattle.paper.specs.Scalars.{Sort, anyone, variable, root, user}
-use Rattle.paper.specs.Policy.{Descriptor, Entry, Grant, every, these}
-use Rattle.paper.specs.Table.{word, elementIn, sortIn, contextIn, isIn, grantIn, descriptorIn, entryIn, policyIn, firstDescriptor, wellFormed}
-use Rattle.paper.specs.Match.{Moment, matches, top, topLiesIn, sortFits, allocatedSortFits, entryMatches, isAll, isAnyone, fitsStatic, fitsAllocated, contextFitsObject, grants, descriptorGrants, someDescriptorGrants}
+use Rattle.paper.specs.Policy.{Entry}
+use Rattle.paper.specs.Table.{elementIn, sortIn, contextIn, isIn, grantIn, descriptorIn, entryIn, policyIn, firstDescriptor, wellFormed}
+use Rattle.paper.specs.Match.{matches, top, topLiesIn, sortFits, allocatedSortFits, entryMatches, isAll, isAnyone, fitsStatic, fitsAllocated, contextFitsObject, grants, descriptorGrants, someDescriptorGrants}
 use Rattle.paper.specs.Verdict.{targetListed, targetDomain, insideOneDomain, entryGrants, byEntries, verdictOf}
 use Rattle.paper.specs.Promises.{accessFor, judgeEvent, judgeAnswer}
 use Rattle.laws.proofs.Counting.{length-map-counted, getD-counted, counted-step, counted-end}
-use Rattle.laws.proofs.Chains.{told-no, told-yes, is-it, is-not, not-below, is-below}
+use Rattle.laws.proofs.Chains.{told-no, told-yes, is-it, is-not}
 use Rattle.judge.specs.declared.Ids.{Ids}
 use Rattle.judge.specs.Moments.{momentOf, targetsOf, targetNumber}
 

@@ -8,7 +8,6 @@ use Rattle.paper.specs.Common.{bytes}
 use Rattle.paper.specs.Page.{Page, fields, fault}
 use Rattle.paper.specs.Scalars.{variable, anyone}
 use Rattle.paper.specs.Policy.{Policy, policyOf, all, these}
-use Rattle.paper.specs.Lookup.{Stretch}
 use Rattle.paper.specs.Promises.{fileOf, textFilled, lookupAnswer}
 use Rattle.paper.proofs.Computing.{computing}
 

@@ -1,7 +1,7 @@
 -- An entry as its fields, and what an omitted field means (document 01, "The page").
 use Prim.Native.Nat.{ℕ}
 use mathlib.Core.List.{List, [], _∷_}
-use mathlib.Core.Bool.{Bool, true, false, cond}
+use mathlib.Core.Bool.{Bool, cond}
 use lib.Dec.{eqb}
 use lib.ListN.{getD}
 use Rattle.paper.specs.Common.{bytes, anyOf, isEmpty}

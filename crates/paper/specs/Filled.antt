@@ -2,7 +2,7 @@
 -- omitted `can_` fields become `all`").
 use Prim.Native.Nat.{ℕ}
 use mathlib.Core.List.{List, [], _∷_, _++_, flatMap}
-use mathlib.Core.Bool.{Bool, true, false, cond}
+use mathlib.Core.Bool.{cond}
 use Rattle.paper.specs.Common.{isEmpty}
 use Rattle.paper.specs.Text.{lineFeed, space}
 use Rattle.paper.specs.Listing.{keyAt, principal, subjectOfEntry, executionContext, canCall, canReturn, canRead, canWrite, callContextIn, uidIn, gidIn, objectsIn, objectContextIn}

@@ -5,7 +5,7 @@ use Prim.Native.String.{String}
 use mathlib.Core.List.{List, [], _∷_, _++_}
 use mathlib.Core.Bool.{Bool, true, false, cond, not, _&&_, _||_}
 use lib.Dec.{eqb}
-use lib.ListN.{length, getD, drop}
+use lib.ListN.{getD, drop}
 use Rattle.paper.specs.Common.{bytes, is, isOne, startsWith}
 use Rattle.paper.specs.Text.{column}
 use Rattle.paper.specs.Scalars.{Scalar, domainName, uidValue, gidValue, subjectIdentifier, objectIdentifier, patternElement, isScalar}

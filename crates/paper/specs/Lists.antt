@@ -1,7 +1,7 @@
 -- List values (document 01, "The page": "Lists are `[]` or `[a, b]`, with one space after each comma and none elsewhere").
 use Prim.Native.Nat.{ℕ, _-_}
 use mathlib.Core.List.{List, [], _∷_, map}
-use mathlib.Core.Bool.{Bool, true, false, cond, not, _&&_, Bool·beq}
+use mathlib.Core.Bool.{Bool, cond, not, _&&_, Bool·beq}
 use lib.Dec.{eqb, leb}
 use lib.ListN.{length, getD, take, drop}
 use Rattle.paper.specs.Common.{isEmpty, allOf, cut}

@@ -1,14 +1,14 @@
 -- The overlap report (document 01, "Overlap report", and demand 3).
-use Prim.Native.Nat.{ℕ, zero, suc, _<_, _≤_}
+use Prim.Native.Nat.{ℕ, _<_, _≤_}
 use mathlib.Core.Path.{_≡_}
 use mathlib.Core.Logic.{_⊎_}
-use mathlib.Core.List.{List, [], _∷_, _++_}
+use mathlib.Core.List.{List, [], _++_}
 use mathlib.Core.Bool.{Bool, true, false, cond, _||_}
 use lib.ListN.{length, getD, take, drop}
 use Rattle.paper.specs.declared.Report.{Report}
 use Rattle.paper.specs.declared.Report.the-variants.{Clear, Clash, Unreported}
 use Rattle.paper.specs.Scalars.{Sort, anyone, variable, root, user}
-use Rattle.paper.specs.Policy.{Context, Grant, every, Entry, Policy}
+use Rattle.paper.specs.Policy.{every, Entry, Policy}
 use Rattle.paper.specs.Table.{padded}
 use Rattle.paper.specs.Match.{Moment, entryMatches}
 

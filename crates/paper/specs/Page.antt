@@ -1,7 +1,7 @@
 -- The page: the list of its fields, or the first line with 4, 9 or 5 "(in that order on one line)" (document 01, "The page" and "Numbers that come back").
 use Prim.Native.Nat.{ℕ, zero, suc, _+_, _-_}
 use mathlib.Core.List.{List, [], _∷_, _++_}
-use mathlib.Core.Bool.{Bool, true, false, cond, not, _&&_, _||_}
+use mathlib.Core.Bool.{Bool, true, false, cond, not, _&&_}
 use lib.Dec.{eqb, leb}
 use lib.ListN.{length, getD, drop}
 use Rattle.paper.specs.Common.{isEmpty, startsWith}

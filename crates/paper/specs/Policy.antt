@@ -2,7 +2,7 @@
 -- "are numbered from 0 in file order" (document 01, "What a match is"); they are their places in these lists.
 use Prim.Native.Nat.{ℕ, _+_}
 use mathlib.Core.List.{List, [], _∷_, _++_, map}
-use mathlib.Core.Bool.{Bool, true, false, cond}
+use mathlib.Core.Bool.{Bool, cond}
 use lib.ListN.{length, replicate}
 use Rattle.paper.specs.Common.{is, among, numberIn}
 use Rattle.paper.specs.Scalars.{Sort, sortOf}

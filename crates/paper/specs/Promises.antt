@@ -2,8 +2,8 @@
 -- (document 01, "Numbers that come back" and "Holding a promise to its word").
 use Prim.Native.Nat.{ℕ, zero, suc}
 use mathlib.Core.Path.{_≡_}
-use mathlib.Core.List.{List, [], _∷_, _++_}
-use mathlib.Core.Bool.{Bool, true, false, cond, not}
+use mathlib.Core.List.{List, [], _++_}
+use mathlib.Core.Bool.{cond, not}
 use lib.Dec.{eqb, ltb}
 use lib.ListN.{length, drop, replicate}
 use Rattle.paper.specs.declared.Access.{Access}
@@ -20,7 +20,7 @@ use Rattle.paper.specs.declared.Map.{Map}
 use Rattle.paper.specs.Common.{within}
 use Rattle.paper.specs.Answers.{fillingNumber, readingNumber}
 use Rattle.paper.specs.Text.{badByteLine}
-use Rattle.paper.specs.Page.{Field, Page, fields, fault, pageOf}
+use Rattle.paper.specs.Page.{Page, fields, fault, pageOf}
 use Rattle.paper.specs.Rules.{ruled, unlessLine}
 use Rattle.paper.specs.Policy.{Policy, policyOf}
 use Rattle.paper.specs.Table.{tableWords, wordsOf, policyIn, wellFormed}

@@ -2,7 +2,7 @@
 -- A rule answers the line, or 0 where it holds.
 use Prim.Native.Nat.{ℕ, zero, suc, _+_}
 use mathlib.Core.List.{List, [], _∷_, _++_, map, flatMap}
-use mathlib.Core.Bool.{Bool, true, false, cond, not, _&&_, _||_}
+use mathlib.Core.Bool.{Bool, false, cond, not, _&&_, _||_}
 use lib.Dec.{eqb, ltb}
 use lib.ListN.{length}
 use Rattle.paper.specs.Common.{bytes, allOf, anyOf, is, same, among}

@@ -2,10 +2,10 @@
 -- (document 01, "Numbers that come back": "The table is a lent stretch of sixteen-bit words").
 use Prim.Native.Nat.{ℕ, zero, suc, _+_, _*_, _-_, _/_, _%_, _^_, min}
 use mathlib.Core.List.{List, [], _∷_, _++_, map, flatMap}
-use mathlib.Core.Bool.{Bool, true, false, cond, not, _&&_, _||_}
+use mathlib.Core.Bool.{Bool, cond, not, _&&_, _||_}
 use lib.Dec.{eqb, ltb, leb}
 use lib.ListN.{length, getD, take, drop, set, replicate}
-use Rattle.paper.specs.Common.{within, isEmpty, upTo, countUp, same}
+use Rattle.paper.specs.Common.{within, upTo, countUp, same}
 use Rattle.paper.specs.Scalars.{Sort, anyone, variable, root, user}
 use Rattle.paper.specs.Rules.{sortNumber}
 use Rattle.paper.specs.Policy.{Element, all, fn, Context, Grant, every, these, Descriptor, Entry, Policy}

@@ -7,7 +7,7 @@ use lib.ListN.{getD}
 use Rattle.paper.specs.declared.Access.{Access}
 use Rattle.paper.specs.declared.Access.the-variants.{Read, Write, Call, Return}
 use Rattle.paper.specs.declared.Verdict.{Verdict}
-use Rattle.paper.specs.declared.Verdict.the-variants.{Inside, Granted, Violation, Unjudged}
+use Rattle.paper.specs.declared.Verdict.the-variants.{Inside, Granted, Violation}
 use Rattle.paper.specs.Policy.{Entry, Policy}
 use Rattle.paper.specs.Match.{Moment, top, isListed, entryMatches, grants, someDescriptorGrants}
 

@@ -1,8 +1,8 @@
 -- What the functions of this crate need, as plain laws: the facts that a place in the code has, and what is to be shown there.
-use mathlib.Core.Path.{_≡_, refl, sym, ap, _∙_}
-use mathlib.Core.Bool.{Bool, true, false, cond, not, _&&_, _||_, and-assoc, and-false}
-use mathlib.Core.List.{List, [], _∷_}
-use Prim.Native.Nat.{ℕ, zero, suc, _+_, _*_, _-_, _/_, _^_, _<_, _≤_, min}
+use mathlib.Core.Path.{_≡_, refl, sym, _∙_}
+use mathlib.Core.Bool.{Bool, true, false, not, _&&_, _||_, and-assoc, and-false}
+use mathlib.Core.List.{List}
+use Prim.Native.Nat.{ℕ, zero, suc, _+_, _*_, _-_, _/_, _^_, _<_, _≤_}
 use native.Mathlib.Omega.{arith}
 use native.Mathlib.Numerals.{add-one}
 use lib.Dec.{eqb, ltb, leb, eqb·suc-zero, leb·suc-zero}
@@ -12,10 +12,10 @@ use borrow.Author.Tests.{eq-eqb, ne-eqb, lt-ltb, le-ltb, le-leb, lt-leb, not-tru
 use native.Mathlib.Nat.{add-assoc, div-eq-of-lt, div-lt-iff-lt-mul}
 use lib.Pow.{pow-pos}
 use Rattle.paper.specs.Common.{upTo, same}
-use Rattle.paper.specs.Table.{word, entryAt, descriptorAt, readCount, writeCount, functionCount, firstDescriptor, zeros, mark, tableWords, boundBy, countsFit, membersFit, grantFits, entryFits, descriptorFits, descriptorsFit, onePrincipal, principalsDiffer, variablesBound, wellFormed}
+use Rattle.paper.specs.Table.{word, firstDescriptor, zeros, mark, tableWords, boundBy, countsFit, membersFit, grantFits, entryFits, descriptorFits, descriptorsFit, onePrincipal, principalsDiffer, variablesBound, wellFormed}
 use Rattle.laws.proofs.Tests.{both-left, both-right, upTo-more, upTo-fails, test-fails, tests-again, tests-done}
 use Rattle.laws.proofs.Chains.{told-no, told-yes, is-it, is-not}
-use Rattle.table.specs.Parts.{zeroAt, memberFits, elementFits, usedBits, setWordFits, entryBlockFits, descriptorBlockFits, differsFrom, principalIsNew, descriptorBound, descriptorsBound, entryBound, blocksFit, restFits}
+use Rattle.table.specs.Parts.{zeroAt, memberFits, elementFits, usedBits, setWordFits, entryBlockFits, descriptorBlockFits, differsFrom, principalIsNew, descriptorsBound, entryBound, blocksFit, restFits}
 
 -- ---- word, part
 

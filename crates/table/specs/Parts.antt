@@ -1,7 +1,7 @@
 -- Names for the tests that `wellFormed` makes of each word, block and entry, as the functions of this crate make them.
 use Prim.Native.Nat.{ℕ, _+_, _*_, _-_, _^_, min}
 use mathlib.Core.List.{List}
-use mathlib.Core.Bool.{Bool, true, false, cond, not, _&&_}
+use mathlib.Core.Bool.{Bool, cond, not, _&&_}
 use lib.Dec.{eqb, ltb, leb}
 use Rattle.paper.specs.Common.{upTo}
 use Rattle.paper.specs.Table.{word, objectsAt, functionsAt, spareAt, entryAt, descriptorAt, objectDomainCount, subjectDomainCount, objectCount, functionCount, entryCount, readCount, writeCount, firstDescriptor, zeros, membersFit, entryFits, descriptorFits, entriesFit, descriptorsFit, onePrincipal, principalsDiffer, boundBy, variablesBound}

@@ -15,8 +15,8 @@ use lib.Seq.{drop-drop}
 use borrow.Author.Tests.{eqb-true, leb-true, eq-eqb, ne-eqb, lt-leb, le-leb, not-true, not-false}
 use Rattle.paper.specs.Common.{bytes, same, isOne, anyOf, allOf, cut, onPiece}
 use Rattle.paper.specs.Scalars.{Scalar, isScalar}
-use Rattle.paper.specs.Lists.{comma, bracketed, spaced, unspaced, elementsIn, elements, listFault}
-use Rattle.paper.specs.Listing.{bareIsNone, valueFault, noneOrItems, allOrKeys, allNoneOrItems, scalar, list, someList, listOrAll}
+use Rattle.paper.specs.Lists.{bracketed, spaced, unspaced, elementsIn, elements, listFault}
+use Rattle.paper.specs.Listing.{bareIsNone, valueFault, noneOrItems, allOrKeys, allNoneOrItems, scalar, someList, listOrAll}
 use Rattle.laws.specs.Pieces.{before}
 use Rattle.laws.proofs.Tests.{both-left, both-right}
 use Rattle.laws.proofs.Chains.{told-no, told-yes}

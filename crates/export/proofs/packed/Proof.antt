@@ -1,64 +1,47 @@
 use Rattle.export.proofs.Laws.{packs-inside, packs-granted, packs-violation, packs-refusal}
-use native.Mathlib.Omega.{arith}
 use borrow.Author.Needs.{needs}
 use Rattle.export.proofs.packed.Statement.{statement}
 use Rattle.export.proofs.packed.Tie as tie
-use Rattle.export.proofs.packed.Reads as reads
-use Rattle.export.proofs.packed.Lts as lts
 
--- src/lib.rt:20:28
 enum-told : tie.Need-enum-told
 enum-told c = search needs
 
--- src/lib.rt:21:28
 enum-known-verdict : tie.Need-enum-known-verdict
 enum-known-verdict c = search needs
 
--- src/lib.rt:21:48
 cast-result : tie.Need-cast-result
 cast-result c = search needs
 
--- src/lib.rt:21:39
 add-result : tie.Need-add-result
 add-result c = search needs
 
--- src/lib.rt:22:30
 enum-known-verdict-2 : tie.Need-enum-known-verdict-2
 enum-known-verdict-2 c = search needs
 
--- src/lib.rt:22:52
 cast-result-2 : tie.Need-cast-result-2
 cast-result-2 c = search needs
 
--- src/lib.rt:22:42
 add-result-2 : tie.Need-add-result-2
 add-result-2 c = search needs
 
--- src/lib.rt:23:29
 enum-known-verdict-3 : tie.Need-enum-known-verdict-3
 enum-known-verdict-3 c = search needs
 
--- src/lib.rt:23:51
 cast-result-3 : tie.Need-cast-result-3
 cast-result-3 c = search needs
 
--- src/lib.rt:23:41
 add-result-3 : tie.Need-add-result-3
 add-result-3 c = search needs
 
--- src/lib.rt:16:1
 returns : tie.Need-returns
 returns c = search (needs, packs-inside)
 
--- src/lib.rt:16:1
 returns-2 : tie.Need-returns-2
 returns-2 c = search (needs, packs-granted)
 
--- src/lib.rt:16:1
 returns-3 : tie.Need-returns-3
 returns-3 c = search (needs, packs-violation)
 
--- src/lib.rt:16:1
 returns-4 : tie.Need-returns-4
 returns-4 c = search (needs, packs-refusal)
 

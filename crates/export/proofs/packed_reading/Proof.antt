@@ -1,40 +1,29 @@
 use Rattle.export.proofs.Laws.{packs-accepted, packs-unread}
-use native.Mathlib.Omega.{arith}
 use borrow.Author.Needs.{needs}
 use Rattle.export.proofs.packed_reading.Statement.{statement}
 use Rattle.export.proofs.packed_reading.Tie as tie
-use Rattle.export.proofs.packed_reading.Reads as reads
-use Rattle.export.proofs.packed_reading.Lts as lts
 
--- src/lib.rt:109:30
 enum-told : tie.Need-enum-told
 enum-told c = search needs
 
--- src/lib.rt:110:27
 enum-known-reading : tie.Need-enum-known-reading
 enum-known-reading c = search needs
 
--- src/lib.rt:110:46
 cast-result : tie.Need-cast-result
 cast-result c = search needs
 
--- src/lib.rt:110:64
 cast-result-2 : tie.Need-cast-result-2
 cast-result-2 c = search needs
 
--- src/lib.rt:110:63
 mul-result : tie.Need-mul-result
 mul-result c = search needs
 
--- src/lib.rt:110:45
 add-result : tie.Need-add-result
 add-result c = search needs
 
--- src/lib.rt:105:1
 returns : tie.Need-returns
 returns c = search (needs, packs-accepted)
 
--- src/lib.rt:105:1
 returns-2 : tie.Need-returns-2
 returns-2 c = search (needs, packs-unread)
 

@@ -1,24 +1,17 @@
 use Rattle.judge.proofs.Laws.{is-read, is-write, is-call, is-return}
 use borrow.Author.Needs.{needs}
-use native.Mathlib.Omega.{arith}
 use Rattle.judge.proofs.access_for.Statement.{statement}
 use Rattle.judge.proofs.access_for.Tie as tie
-use Rattle.judge.proofs.access_for.Reads as reads
-use Rattle.judge.proofs.access_for.Lts as lts
 
--- src/lib.rt:328:9
 returns : tie.Need-returns
 returns c = search (needs, is-read)
 
--- src/lib.rt:331:9
 returns-2 : tie.Need-returns-2
 returns-2 c = search (needs, is-write)
 
--- src/lib.rt:334:9
 returns-3 : tie.Need-returns-3
 returns-3 c = search (needs, is-call)
 
--- src/lib.rt:324:1
 returns-4 : tie.Need-returns-4
 returns-4 c = search (needs, is-return)
 

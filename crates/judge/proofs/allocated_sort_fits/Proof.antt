@@ -1,21 +1,14 @@
 use Rattle.judge.proofs.Laws.{sort-bound, sort-free}
-use native.Mathlib.Omega.{arith}
 use borrow.Author.Needs.{needs}
 use Rattle.judge.proofs.allocated_sort_fits.Statement.{statement}
 use Rattle.judge.proofs.allocated_sort_fits.Tie as tie
-use Rattle.judge.proofs.allocated_sort_fits.Reads as reads
-use Rattle.judge.proofs.allocated_sort_fits.Lts as lts
-use Rattle.judge.proofs.sort_fits.Reads as sort-fits-reads
 
--- src/lib.rt:81:9
 returns : tie.Need-returns
 returns c = search (needs, sort-bound)
 
--- src/lib.rt:83:5
 sort-fits-requires : tie.Need-sort-fits-requires
 sort-fits-requires c κs = search needs
 
--- src/lib.rt:77:1
 returns-2 : tie.Need-returns-2
 returns-2 c = search (needs, sort-free)
 

@@ -4,16 +4,8 @@ use Prim.Native.Nat.{_≤_, _-_, _*_}
 use Rattle.table.proofs.Laws.{sum-none, sum-again}
 use Rattle.judge.proofs.Laws.{fromEntry, allEntries, entries-start, entry-granted, entry-passed, some-matched, none-matched}
 use borrow.Author.Needs.{needs}
-use native.Mathlib.Omega.{arith}
 use Rattle.judge.proofs.by_entries.Statement.{statement}
 use Rattle.judge.proofs.by_entries.Tie as tie
-use Rattle.judge.proofs.by_entries.Reads as reads
-use Rattle.judge.proofs.by_entries.Lts as lts
-use Rattle.judge.proofs.either.Reads as either-reads
-use Rattle.judge.proofs.entry_matches.Reads as entry-matches-reads
-use Rattle.judge.proofs.matching_grants.Reads as matching-grants-reads
-use Rattle.judge.proofs.target_domain.Reads as target-domain-reads
-use Rattle.table.proofs.count.Reads as count-reads
 
 abbrev Inv-loop : tie.InvT-loop
 Inv-loop t access stack ids allocation allocated entries domain matched₀ first₀ k₀ matched first k = (k ≤ entries) × (first ≡ firstDescriptor t k) × (first ≤ 131070 * k) × (fromEntry t stack allocation access ids allocated entries k matched ≡ allEntries t stack allocation access ids allocated)
@@ -21,100 +13,76 @@ Inv-loop t access stack ids allocation allocated entries domain matched₀ first
 abbrev μ-loop : tie.MeasureT-loop
 μ-loop t access stack ids allocation allocated entries domain matched₀ first₀ k₀ matched first k = entries - k
 
--- src/lib.rt:285:9
 count-requires : tie.Need-count-requires Inv-loop μ-loop
 count-requires c κs = search needs
 
--- src/lib.rt:286:18
 target-domain-requires : tie.Need-target-domain-requires Inv-loop μ-loop
 target-domain-requires c κs = search needs
 
--- src/lib.rt:286:18
 cast-domain : tie.Need-cast-domain Inv-loop μ-loop
 cast-domain c = search needs
 
--- src/lib.rt:290:5
 loop-holds : tie.Need-loop-holds Inv-loop μ-loop
 loop-holds c = search (needs, sum-none, entries-start)
 
--- src/lib.rt:291:13
 entry-matches-requires : tie.Need-entry-matches-requires Inv-loop μ-loop
 entry-matches-requires c κs = search needs
 
--- src/lib.rt:292:12
 matching-grants-requires : tie.Need-matching-grants-requires Inv-loop μ-loop
 matching-grants-requires c κs = search needs
 
--- src/lib.rt:293:46
 cast-entry : tie.Need-cast-entry Inv-loop μ-loop
 cast-entry c = search needs
 
--- src/lib.rt:293:13
 returns : tie.Need-returns Inv-loop μ-loop
 returns c = search (needs, entry-granted)
 
--- src/lib.rt:295:9
 either-requires : tie.Need-either-requires Inv-loop μ-loop
 either-requires c κs = search needs
 
--- src/lib.rt:296:48
 mul-count : tie.Need-mul-count Inv-loop μ-loop
 mul-count c = search needs
 
--- src/lib.rt:296:41
 add-count : tie.Need-add-count Inv-loop μ-loop
 add-count c = search needs
 
--- src/lib.rt:296:41
 add-count-2 : tie.Need-add-count-2 Inv-loop μ-loop
 add-count-2 c = search needs
 
--- src/lib.rt:296:25
 count-requires-2 : tie.Need-count-requires-2 Inv-loop μ-loop
 count-requires-2 c κs = search needs
 
--- src/lib.rt:296:17
 add-first : tie.Need-add-first Inv-loop μ-loop
 add-first c = search needs
 
--- src/lib.rt:296:86
 mul-count-2 : tie.Need-mul-count-2 Inv-loop μ-loop
 mul-count-2 c = search needs
 
--- src/lib.rt:296:79
 add-count-3 : tie.Need-add-count-3 Inv-loop μ-loop
 add-count-3 c = search needs
 
--- src/lib.rt:296:79
 add-count-4 : tie.Need-add-count-4 Inv-loop μ-loop
 add-count-4 c = search needs
 
--- src/lib.rt:296:63
 count-requires-3 : tie.Need-count-requires-3 Inv-loop μ-loop
 count-requires-3 c κs = search needs
 
--- src/lib.rt:296:17
 add-first-2 : tie.Need-add-first-2 Inv-loop μ-loop
 add-first-2 c = search needs
 
--- src/lib.rt:297:9
 add-k : tie.Need-add-k Inv-loop μ-loop
 add-k c = search needs
 
--- src/lib.rt:290:5
 loop-less : tie.Need-loop-less Inv-loop μ-loop
 loop-less c = search needs
 
--- src/lib.rt:290:5
 loop-again : tie.Need-loop-again Inv-loop μ-loop
 loop-again c =
     (search needs, sum-again _ _ _ _ _ (c .before .before .before .before .before .before .before .loop .inv .1) (c .before .count2 .ensures .0) (c .count3 .ensures .0), search needs, entry-passed _ _ _ _ _ _ _ _ _ _ _ _ (c .before .before .before .before .before .before .loop-test .taken) (c .before .before .before .before .before .before .before .loop .inv .3) (c .before .before .before .before .before .entry-matches .ensures) (c .before .before .before .before .matching-grants .ensures) (c .before .before .before .if1 .left) (c .before .before .either .ensures))
 
--- src/lib.rt:300:9
 returns-2 : tie.Need-returns-2 Inv-loop μ-loop
 returns-2 c = search (needs, some-matched)
 
--- src/lib.rt:282:1
 returns-3 : tie.Need-returns-3 Inv-loop μ-loop
 returns-3 c = search (needs, none-matched)
 

@@ -1,49 +1,35 @@
 use Rattle.judge.proofs.Laws.{read-not-inside, write-not-inside, call-inside, return-inside}
-use native.Mathlib.Omega.{arith}
 use borrow.Author.Needs.{needs}
 use Rattle.judge.proofs.inside_one_domain.Statement.{statement}
 use Rattle.judge.proofs.inside_one_domain.Tie as tie
-use Rattle.judge.proofs.inside_one_domain.Reads as reads
-use Rattle.judge.proofs.inside_one_domain.Lts as lts
-use Rattle.judge.proofs.target_domain.Reads as target-domain-reads
 
--- src/lib.rt:229:28
 enum-told : tie.Need-enum-told
 enum-told c = search needs
 
--- src/lib.rt:230:29
 enum-told-2 : tie.Need-enum-told-2
 enum-told-2 c = search needs
 
--- src/lib.rt:231:28
 enum-told-3 : tie.Need-enum-told-3
 enum-told-3 c = search needs
 
--- src/lib.rt:231:28
 target-domain-requires : tie.Need-target-domain-requires
 target-domain-requires c κs = search needs
 
--- src/lib.rt:232:30
 enum-told-4 : tie.Need-enum-told-4
 enum-told-4 c = search needs
 
--- src/lib.rt:232:30
 target-domain-requires-2 : tie.Need-target-domain-requires-2
 target-domain-requires-2 c κs = search needs
 
--- src/lib.rt:225:1
 returns : tie.Need-returns
 returns c = search (needs, read-not-inside)
 
--- src/lib.rt:225:1
 returns-2 : tie.Need-returns-2
 returns-2 c = search (needs, write-not-inside)
 
--- src/lib.rt:225:1
 returns-3 : tie.Need-returns-3
 returns-3 c = search (needs, call-inside)
 
--- src/lib.rt:225:1
 returns-4 : tie.Need-returns-4
 returns-4 c = search (needs, return-inside)
 

@@ -7,12 +7,8 @@ use mathlib.Core.Path.{_≡_}
 use Prim.Native.Nat.{_≤_, _+_, _-_}
 use Rattle.judge.proofs.Laws.{some-start, some-found, some-later, some-none}
 use borrow.Author.Needs.{needs}
-use native.Mathlib.Omega.{arith}
 use Rattle.judge.proofs.some_descriptor_grants.Statement.{statement}
 use Rattle.judge.proofs.some_descriptor_grants.Tie as tie
-use Rattle.judge.proofs.some_descriptor_grants.Reads as reads
-use Rattle.judge.proofs.some_descriptor_grants.Lts as lts
-use Rattle.judge.proofs.descriptor_grants.Reads as descriptor-grants-reads
 
 abbrev Inv-loop : tie.InvT-loop
 Inv-loop t first n domain ids allocation allocated i₀ i = (i ≤ n) × (anyOf (descriptorGrants domain (momentOf [] ids) (momentOf allocation allocated)) (map (descriptorIn t) (countUp (first + i) (n - i))) ≡ anyOf (descriptorGrants domain (momentOf [] ids) (momentOf allocation allocated)) (map (descriptorIn t) (countUp first n)))
@@ -20,35 +16,27 @@ Inv-loop t first n domain ids allocation allocated i₀ i = (i ≤ n) × (anyOf 
 abbrev μ-loop : tie.MeasureT-loop
 μ-loop t first n domain ids allocation allocated i₀ i = n - i
 
--- src/lib.rt:179:5
 loop-holds : tie.Need-loop-holds Inv-loop μ-loop
 loop-holds c = search (needs, some-start)
 
--- src/lib.rt:180:33
 add-descriptor-grants : tie.Need-add-descriptor-grants Inv-loop μ-loop
 add-descriptor-grants c = search needs
 
--- src/lib.rt:180:12
 descriptor-grants-requires : tie.Need-descriptor-grants-requires Inv-loop μ-loop
 descriptor-grants-requires c κs = search needs
 
--- src/lib.rt:181:13
 returns : tie.Need-returns Inv-loop μ-loop
 returns c = search (needs, some-found)
 
--- src/lib.rt:183:9
 add-i : tie.Need-add-i Inv-loop μ-loop
 add-i c = search needs
 
--- src/lib.rt:179:5
 loop-less : tie.Need-loop-less Inv-loop μ-loop
 loop-less c = search needs
 
--- src/lib.rt:179:5
 loop-again : tie.Need-loop-again Inv-loop μ-loop
 loop-again c = search (needs, some-later)
 
--- src/lib.rt:174:1
 returns-2 : tie.Need-returns-2 Inv-loop μ-loop
 returns-2 c = search (needs, some-none)
 

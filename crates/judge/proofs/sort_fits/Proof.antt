@@ -1,20 +1,14 @@
 use Rattle.judge.proofs.Laws.{sort-binds, sort-root, sort-user}
 use borrow.Author.Needs.{needs}
-use native.Mathlib.Omega.{arith}
 use Rattle.judge.proofs.sort_fits.Statement.{statement}
 use Rattle.judge.proofs.sort_fits.Tie as tie
-use Rattle.judge.proofs.sort_fits.Reads as reads
-use Rattle.judge.proofs.sort_fits.Lts as lts
 
--- src/lib.rt:68:9
 returns : tie.Need-returns
 returns c = search (needs, sort-binds)
 
--- src/lib.rt:71:9
 returns-2 : tie.Need-returns-2
 returns-2 c = search (needs, sort-root)
 
--- src/lib.rt:64:1
 returns-3 : tie.Need-returns-3
 returns-3 c = search (needs, sort-user)
 

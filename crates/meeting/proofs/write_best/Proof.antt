@@ -1,41 +1,30 @@
 use Rattle.meeting.proofs.Witness.{long-pattern, long-other, many-functions, little-room, all-fits}
-use native.Mathlib.Omega.{arith}
 use borrow.Author.Needs.{needs}
 use Rattle.meeting.proofs.write_best.Statement.{statement}
 use Rattle.meeting.proofs.write_best.Tie as tie
-use Rattle.meeting.proofs.write_best.Reads as reads
-use Rattle.meeting.proofs.write_best.Lts as lts
-use Rattle.meeting.proofs.meet.Reads as meet-reads
 
--- src/lib.rt:384:9
 returns : tie.Need-returns
 returns c =
     (simp (long-pattern (c .before .before .before .before .before .args .p .now) (c .before .before .before .before .before .args .q .now) (c .before .before .before .before .before .args .functions .now) (c .before .before .before .before .before .args .witness .now) (c .if1 .taken)), simp (long-pattern (c .before .before .before .before .before .args .p .now) (c .before .before .before .before .before .args .q .now) (c .before .before .before .before .before .args .functions .now) (c .before .before .before .before .before .args .witness .now) (c .if1 .taken)))
 
--- src/lib.rt:387:9
 returns-2 : tie.Need-returns-2
 returns-2 c =
     (simp (long-other (c .before .before .before .before .before .before .args .p .now) (c .before .before .before .before .before .before .args .q .now) (c .before .before .before .before .before .before .args .functions .now) (c .before .before .before .before .before .before .args .witness .now) (c .if2 .taken)), simp (long-other (c .before .before .before .before .before .before .args .p .now) (c .before .before .before .before .before .before .args .q .now) (c .before .before .before .before .before .before .args .functions .now) (c .before .before .before .before .before .before .args .witness .now) (c .if2 .taken)))
 
--- src/lib.rt:390:9
 returns-3 : tie.Need-returns-3
 returns-3 c =
     (simp (many-functions (c .before .before .before .before .before .before .before .args .p .now) (c .before .before .before .before .before .before .before .args .q .now) (c .before .before .before .before .before .before .before .args .functions .now) (c .before .before .before .before .before .before .before .args .witness .now) (c .if3 .taken)), simp (many-functions (c .before .before .before .before .before .before .before .args .p .now) (c .before .before .before .before .before .before .before .args .q .now) (c .before .before .before .before .before .before .before .args .functions .now) (c .before .before .before .before .before .before .before .args .witness .now) (c .if3 .taken)))
 
--- src/lib.rt:393:9
 returns-4 : tie.Need-returns-4
 returns-4 c =
     (simp (little-room (c .before .before .before .before .before .before .before .before .args .p .now) (c .before .before .before .before .before .before .before .before .args .q .now) (c .before .before .before .before .before .before .before .before .args .functions .now) (c .before .before .before .before .before .before .before .before .args .witness .now) (c .if4 .taken)), simp (little-room (c .before .before .before .before .before .before .before .before .args .p .now) (c .before .before .before .before .before .before .before .before .args .q .now) (c .before .before .before .before .before .before .before .before .args .functions .now) (c .before .before .before .before .before .before .before .before .args .witness .now) (c .if4 .taken)))
 
--- src/lib.rt:395:5
 meet-requires : tie.Need-meet-requires
 meet-requires c κs = search needs
 
--- src/lib.rt:379:1
 same-length : tie.Need-same-length
 same-length c = search needs
 
--- src/lib.rt:379:1
 returns-5 : tie.Need-returns-5
 returns-5 c =
     (simp (all-fits (c .before .before .before .before .before .before .before .before .before .before .before .before .args .p .now) (c .before .before .before .before .before .before .before .before .before .before .before .before .args .q .now) (c .before .before .before .before .before .before .before .before .before .before .before .before .args .functions .now) (c .before .before .before .before .before .before .before .before .before .before .before .before .args .witness .now) (c .before .before .before .before .before .before .before .if1 .left) (c .before .before .before .before .before .before .if2 .left) (c .before .before .before .before .before .if3 .left) (c .before .before .before .before .if4 .left)) (c .before .before .meet .ensures .0), simp (all-fits (c .before .before .before .before .before .before .before .before .before .before .before .before .args .p .now) (c .before .before .before .before .before .before .before .before .before .before .before .before .args .q .now) (c .before .before .before .before .before .before .before .before .before .before .before .before .args .functions .now) (c .before .before .before .before .before .before .before .before .before .before .before .before .args .witness .now) (c .before .before .before .before .before .before .before .if1 .left) (c .before .before .before .before .before .before .if2 .left) (c .before .before .before .before .before .if3 .left) (c .before .before .before .before .if4 .left)) (c .before .before .meet .ensures .1))

@@ -1,21 +1,14 @@
 use Rattle.meeting.proofs.Witness.{all-fits}
-use native.Mathlib.Omega.{arith}
 use borrow.Author.Needs.{needs}
 use Rattle.overlap.proofs.meet.Statement.{statement}
 use Rattle.overlap.proofs.meet.Tie as tie
-use Rattle.overlap.proofs.meet.Reads as reads
-use Rattle.overlap.proofs.meet.Lts as lts
-use Rattle.meeting.proofs.write_best.Reads as write-best-reads
 
--- src/lib.rt:63:5
 write-best-requires : tie.Need-write-best-requires
 write-best-requires c κs = search needs
 
--- src/lib.rt:58:1
 same-length : tie.Need-same-length
 same-length c = search needs
 
--- src/lib.rt:58:1
 returns : tie.Need-returns
 returns c =
     let room = all-fits (c .before .before .before .before .before .before .before .before .args .p .now) (c .before .before .before .before .before .before .before .before .args .q .now) (c .before .before .before .before .before .before .before .before .args .functions .now) (c .before .before .before .before .before .before .before .before .args .witness .now) (c .before .before .before .before .before .before .before .before .pre .0) (c .before .before .before .before .before .before .before .before .pre .1) (c .before .before .before .before .before .before .before .before .pre .2) (c .before .before .before .before .before .before .before .before .pre .3) in (simp room at (c .before .before .write-best .ensures .0), simp room at (c .before .before .write-best .ensures .1))

@@ -2,14 +2,8 @@ use mathlib.Core.Path.{_≡_}
 use lib.ListN.{length}
 use Prim.Native.Nat.{_≤_, _-_}
 use borrow.Author.Needs.{needs}
-use native.Mathlib.Omega.{arith}
 use Rattle.replay.proofs.load.Statement.{statement}
 use Rattle.replay.proofs.load.Tie as tie
-use Rattle.replay.proofs.load.Reads as reads
-use Rattle.replay.proofs.load.Lts as lts
-use Rattle.replay.proofs.after.Reads as after-reads
-use Rattle.replay.proofs.put.Reads as put-reads
-use Rattle.replay.proofs.short.Reads as short-reads
 
 abbrev Inv-loop : tie.InvT-loop
 Inv-loop b at n words₀ to i₀ words i = (i ≤ n) × (length words ≡ length words₀)
@@ -17,47 +11,36 @@ Inv-loop b at n words₀ to i₀ words i = (i ≤ n) × (length words ≡ length
 abbrev μ-loop : tie.MeasureT-loop
 μ-loop b at n words₀ to i₀ words i = n - i
 
--- src/main.rt:55:5
 loop-holds : tie.Need-loop-holds Inv-loop μ-loop
 loop-holds c = search needs
 
--- src/main.rt:56:20
 after-requires : tie.Need-after-requires Inv-loop μ-loop
 after-requires c κs = search needs
 
--- src/main.rt:56:53
 after-requires-2 : tie.Need-after-requires-2 Inv-loop μ-loop
 after-requires-2 c κs = search needs
 
--- src/main.rt:56:43
 after-requires-3 : tie.Need-after-requires-3 Inv-loop μ-loop
 after-requires-3 c κs = search needs
 
--- src/main.rt:56:34
 short-requires : tie.Need-short-requires Inv-loop μ-loop
 short-requires c κs = search needs
 
--- src/main.rt:56:9
 put-requires : tie.Need-put-requires Inv-loop μ-loop
 put-requires c κs = search needs
 
--- src/main.rt:57:9
 add-i : tie.Need-add-i Inv-loop μ-loop
 add-i c = search needs
 
--- src/main.rt:55:5
 loop-less : tie.Need-loop-less Inv-loop μ-loop
 loop-less c = search needs
 
--- src/main.rt:55:5
 loop-again : tie.Need-loop-again Inv-loop μ-loop
 loop-again c = search needs
 
--- src/main.rt:53:1
 same-length : tie.Need-same-length Inv-loop μ-loop
 same-length c = search needs
 
--- src/main.rt:53:1
 returns : tie.Need-returns Inv-loop μ-loop
 returns c = search needs
 

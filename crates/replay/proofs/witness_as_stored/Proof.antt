@@ -1,13 +1,8 @@
 use lib.ListN.{length}
 use Prim.Native.Nat.{_≤_, _-_}
 use borrow.Author.Needs.{needs}
-use native.Mathlib.Omega.{arith}
 use Rattle.replay.proofs.witness_as_stored.Statement.{statement}
 use Rattle.replay.proofs.witness_as_stored.Tie as tie
-use Rattle.replay.proofs.witness_as_stored.Reads as reads
-use Rattle.replay.proofs.witness_as_stored.Lts as lts
-use Rattle.replay.proofs.both.Reads as both-reads
-use Rattle.replay.proofs.stored_word.Reads as stored-word-reads
 
 abbrev Inv-loop : tie.InvT-loop
 Inv-loop b at written witness same₀ i₀ same i = i ≤ length witness
@@ -15,39 +10,30 @@ Inv-loop b at written witness same₀ i₀ same i = i ≤ length witness
 abbrev μ-loop : tie.MeasureT-loop
 μ-loop b at written witness same₀ i₀ same i = length witness - i
 
--- src/main.rt:176:5
 loop-holds : tie.Need-loop-holds Inv-loop μ-loop
 loop-holds c = search needs
 
--- src/main.rt:177:27
 mul-both : tie.Need-mul-both Inv-loop μ-loop
 mul-both c = search needs
 
--- src/main.rt:177:27
 shared-slice-read-both : tie.Need-shared-slice-read-both Inv-loop μ-loop
 shared-slice-read-both c = search needs
 
--- src/main.rt:177:41
 stored-word-requires : tie.Need-stored-word-requires Inv-loop μ-loop
 stored-word-requires c κs = search needs
 
--- src/main.rt:177:9
 both-requires : tie.Need-both-requires Inv-loop μ-loop
 both-requires c κs = search needs
 
--- src/main.rt:178:9
 add-i : tie.Need-add-i Inv-loop μ-loop
 add-i c = search needs
 
--- src/main.rt:176:5
 loop-less : tie.Need-loop-less Inv-loop μ-loop
 loop-less c = search needs
 
--- src/main.rt:176:5
 loop-again : tie.Need-loop-again Inv-loop μ-loop
 loop-again c = search needs
 
--- src/main.rt:173:1
 returns : tie.Need-returns Inv-loop μ-loop
 returns c = search needs
 

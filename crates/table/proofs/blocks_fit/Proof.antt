@@ -2,68 +2,49 @@ use mathlib.Core.Bool.{and-false}
 use Rattle.laws.proofs.Chains.{told-no, told-yes}
 use Rattle.table.proofs.Laws.{members-no, members-yes}
 use Rattle.table.specs.Parts.{blocksFit}
-use native.Mathlib.Omega.{arith}
 use borrow.Author.Needs.{needs}
 use Rattle.table.proofs.blocks_fit.Statement.{statement}
 use Rattle.table.proofs.blocks_fit.Tie as tie
-use Rattle.table.proofs.blocks_fit.Reads as reads
-use Rattle.table.proofs.blocks_fit.Lts as lts
-use Rattle.table.proofs.entries_fit.Reads as entries-fit-reads
-use Rattle.table.proofs.is_zero.Reads as is-zero-reads
-use Rattle.table.proofs.members_fit.Reads as members-fit-reads
-use Rattle.table.proofs.word.Reads as word-reads
 
--- src/lib.rt:403:9
 is-zero-requires : tie.Need-is-zero-requires
 is-zero-requires c κs = search needs
 
--- src/lib.rt:404:9
 returns : tie.Need-returns
 unfolding blocksFit
 returns c =
     simp (told-no _ _ (c .before .is-zero .ensures) (c .if1 .taken))
 
--- src/lib.rt:406:28
 word-requires : tie.Need-word-requires
 word-requires c κs = search needs
 
--- src/lib.rt:406:40
 word-requires-2 : tie.Need-word-requires-2
 word-requires-2 c κs = search needs
 
--- src/lib.rt:406:9
 members-fit-requires : tie.Need-members-fit-requires
 members-fit-requires c κs = search needs
 
--- src/lib.rt:407:9
 returns-2 : tie.Need-returns-2
 unfolding blocksFit
 returns-2 c =
     simp (members-no _ _ _ _ _ _ _ (c .before .members-fit .ensures) (c .before .before .before .word .ensures) (c .before .before .word2 .ensures) (c .if2 .taken), and-false)
 
--- src/lib.rt:409:30
 word-requires-3 : tie.Need-word-requires-3
 word-requires-3 c κs = search needs
 
--- src/lib.rt:409:42
 word-requires-4 : tie.Need-word-requires-4
 word-requires-4 c κs = search needs
 
--- src/lib.rt:409:9
 members-fit-requires-2 : tie.Need-members-fit-requires-2
 members-fit-requires-2 c κs = search needs
 
--- src/lib.rt:410:9
 returns-3 : tie.Need-returns-3
 unfolding blocksFit
 returns-3 c =
     simp (members-no _ _ _ _ _ _ _ (c .before .members-fit2 .ensures) (c .before .before .before .word3 .ensures) (c .before .before .word4 .ensures) (c .if3 .taken), and-false)
 
--- src/lib.rt:412:5
 entries-fit-requires : tie.Need-entries-fit-requires
 entries-fit-requires c κs = search needs
 
--- src/lib.rt:400:1
 returns-4 : tie.Need-returns-4
 unfolding blocksFit
 returns-4 c =

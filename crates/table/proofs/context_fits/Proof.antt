@@ -1,79 +1,59 @@
 use mathlib.Core.Bool.{and-false}
-use mathlib.Core.Path.{refl}
 use Rattle.laws.proofs.Chains.{above, is-below, is-it, is-not, not-above, not-below, not-under, under}
 use Rattle.paper.specs.Table.{contextFits}
-use native.Mathlib.Omega.{arith}
 use borrow.Author.Needs.{needs}
 use Rattle.table.proofs.context_fits.Statement.{statement}
 use Rattle.table.proofs.context_fits.Tie as tie
-use Rattle.table.proofs.context_fits.Reads as reads
-use Rattle.table.proofs.context_fits.Lts as lts
-use Rattle.table.proofs.elements_fit.Reads as elements-fit-reads
-use Rattle.table.proofs.word.Reads as word-reads
 
--- src/lib.rt:168:9
 word-requires : tie.Need-word-requires
 word-requires c κs = search needs
 
--- src/lib.rt:170:9
 returns : tie.Need-returns
 unfolding contextFits
 returns c =
     simp (under _ 1 _ (c .before .word .ensures) (c .if1 .taken))
 
--- src/lib.rt:173:9
 returns-2 : tie.Need-returns-2
 unfolding contextFits
 returns-2 c =
     simp (above _ 16 _ (c .before .before .word .ensures) (c .if2 .taken), and-false)
 
--- src/lib.rt:175:21
 add-word : tie.Need-add-word
 add-word c = search needs
 
--- src/lib.rt:175:13
 word-requires-2 : tie.Need-word-requires-2
 word-requires-2 c κs = search needs
 
--- src/lib.rt:176:9
 returns-3 : tie.Need-returns-3
 unfolding contextFits
 returns-3 c =
     simp (not-below _ 4 _ (c .before .word2 .ensures) (c .if3 .taken), and-false)
 
--- src/lib.rt:178:21
 add-word-2 : tie.Need-add-word-2
 add-word-2 c = search needs
 
--- src/lib.rt:178:13
 word-requires-3 : tie.Need-word-requires-3
 word-requires-3 c κs = search needs
 
--- src/lib.rt:179:9
 returns-4 : tie.Need-returns-4
 unfolding contextFits
 returns-4 c =
     simp (not-below _ 2 _ (c .before .word3 .ensures) (c .if4 .taken), and-false)
 
--- src/lib.rt:181:16
 add-word-3 : tie.Need-add-word-3
 add-word-3 c = search needs
 
--- src/lib.rt:181:8
 word-requires-4 : tie.Need-word-requires-4
 word-requires-4 c κs = search needs
 
--- src/lib.rt:182:9
 returns-5 : tie.Need-returns-5
 unfolding contextFits
 returns-5 c =
     simp (is-not _ 0 _ (c .before .word4 .ensures) (c .if5 .taken), and-false)
 
--- src/lib.rt:184:5
 elements-fit-requires : tie.Need-elements-fit-requires
 elements-fit-requires c κs = search needs
 
--- src/lib.rt:164:1
 returns-6 : tie.Need-returns-6
 unfolding contextFits
 returns-6 c =

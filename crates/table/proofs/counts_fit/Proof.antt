@@ -2,71 +2,53 @@ use mathlib.Core.Bool.{and-false}
 use mathlib.Core.Path.{refl}
 use Rattle.laws.proofs.Chains.{above, not-above}
 use Rattle.paper.specs.Table.{countsFit}
-use native.Mathlib.Omega.{arith}
 use borrow.Author.Needs.{needs}
 use Rattle.table.proofs.counts_fit.Statement.{statement}
 use Rattle.table.proofs.counts_fit.Tie as tie
-use Rattle.table.proofs.counts_fit.Reads as reads
-use Rattle.table.proofs.counts_fit.Lts as lts
-use Rattle.table.proofs.count.Reads as count-reads
-use Rattle.table.proofs.first_descriptor.Reads as first-descriptor-reads
-use Rattle.table.proofs.word.Reads as word-reads
 
--- src/lib.rt:93:14
 word-requires : tie.Need-word-requires
 word-requires c κs = search needs
 
--- src/lib.rt:94:9
 returns : tie.Need-returns
 unfolding countsFit
 returns c =
     simp (above _ 128 _ (c .before .word .ensures) (c .if1 .taken))
 
--- src/lib.rt:96:14
 word-requires-2 : tie.Need-word-requires-2
 word-requires-2 c κs = search needs
 
--- src/lib.rt:97:9
 returns-2 : tie.Need-returns-2
 unfolding countsFit
 returns-2 c =
     simp (above _ 128 _ (c .before .word2 .ensures) (c .if2 .taken), and-false)
 
--- src/lib.rt:99:15
 word-requires-3 : tie.Need-word-requires-3
 word-requires-3 c κs = search needs
 
--- src/lib.rt:100:9
 returns-3 : tie.Need-returns-3
 unfolding countsFit
 returns-3 c =
     simp (above _ 1024 _ (c .before .word3 .ensures) (c .if3 .taken), and-false)
 
--- src/lib.rt:102:15
 word-requires-4 : tie.Need-word-requires-4
 word-requires-4 c κs = search needs
 
--- src/lib.rt:103:9
 returns-4 : tie.Need-returns-4
 unfolding countsFit
 returns-4 c =
     simp (above _ 1024 _ (c .before .word4 .ensures) (c .if4 .taken), and-false)
 
--- src/lib.rt:105:9
 count-requires : tie.Need-count-requires
 count-requires c κs = search needs
 
--- src/lib.rt:107:9
 returns-5 : tie.Need-returns-5
 unfolding countsFit
 returns-5 c =
     simp (above _ 128 _ (c .before .count .ensures .0) (c .if5 .taken), and-false)
 
--- src/lib.rt:109:5
 first-descriptor-requires : tie.Need-first-descriptor-requires
 first-descriptor-requires c κs = search needs
 
--- src/lib.rt:90:1
 returns-6 : tie.Need-returns-6
 unfolding countsFit
 returns-6 c =

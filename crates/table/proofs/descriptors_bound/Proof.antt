@@ -2,15 +2,11 @@ use Rattle.table.specs.Parts.{descriptorBound}
 use Rattle.paper.specs.Common.{upTo}
 use mathlib.Core.Path.{_≡_}
 use mathlib.Core.Bool.{true}
-use Prim.Native.Nat.{_≤_, _-_, _+_}
+use Prim.Native.Nat.{_≤_, _-_}
 use Rattle.laws.proofs.Tests.{upTo-none, tests-again, test-fails, tests-done}
 use borrow.Author.Needs.{needs}
-use native.Mathlib.Omega.{arith}
 use Rattle.table.proofs.descriptors_bound.Statement.{statement}
 use Rattle.table.proofs.descriptors_bound.Tie as tie
-use Rattle.table.proofs.descriptors_bound.Reads as reads
-use Rattle.table.proofs.descriptors_bound.Lts as lts
-use Rattle.table.proofs.bound_by.Reads as bound-by-reads
 
 abbrev Inv-loop : tie.InvT-loop
 Inv-loop t entry first n i₀ i = (i ≤ n) × (upTo (descriptorBound t entry first) i ≡ true)
@@ -18,43 +14,33 @@ Inv-loop t entry first n i₀ i = (i ≤ n) × (upTo (descriptorBound t entry fi
 abbrev μ-loop : tie.MeasureT-loop
 μ-loop t entry first n i₀ i = n - i
 
--- src/lib.rt:372:5
 loop-holds : tie.Need-loop-holds Inv-loop μ-loop
 loop-holds c = search (needs, upTo-none)
 
--- src/lib.rt:373:45
 add-bound-by : tie.Need-add-bound-by Inv-loop μ-loop
 add-bound-by c = search needs
 
--- src/lib.rt:373:39
 mul-bound-by : tie.Need-mul-bound-by Inv-loop μ-loop
 mul-bound-by c = search needs
 
--- src/lib.rt:373:32
 add-bound-by-2 : tie.Need-add-bound-by-2 Inv-loop μ-loop
 add-bound-by-2 c = search needs
 
--- src/lib.rt:373:13
 bound-by-requires : tie.Need-bound-by-requires Inv-loop μ-loop
 bound-by-requires c κs = search needs
 
--- src/lib.rt:374:13
 returns : tie.Need-returns Inv-loop μ-loop
 returns c = search (needs, test-fails)
 
--- src/lib.rt:376:9
 add-i : tie.Need-add-i Inv-loop μ-loop
 add-i c = search needs
 
--- src/lib.rt:372:5
 loop-less : tie.Need-loop-less Inv-loop μ-loop
 loop-less c = search needs
 
--- src/lib.rt:372:5
 loop-again : tie.Need-loop-again Inv-loop μ-loop
 loop-again c = search (needs, tests-again)
 
--- src/lib.rt:367:1
 returns-2 : tie.Need-returns-2 Inv-loop μ-loop
 returns-2 c = search (needs, tests-done)
 

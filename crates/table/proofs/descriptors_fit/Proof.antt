@@ -5,12 +5,8 @@ use mathlib.Core.Bool.{true}
 use Prim.Native.Nat.{_≤_, _-_}
 use Rattle.laws.proofs.Tests.{upTo-none, tests-again, test-fails, tests-done}
 use borrow.Author.Needs.{needs}
-use native.Mathlib.Omega.{arith}
 use Rattle.table.proofs.descriptors_fit.Statement.{statement}
 use Rattle.table.proofs.descriptors_fit.Tie as tie
-use Rattle.table.proofs.descriptors_fit.Reads as reads
-use Rattle.table.proofs.descriptors_fit.Lts as lts
-use Rattle.table.proofs.descriptor_block_fits.Reads as descriptor-block-fits-reads
 
 abbrev Inv-loop : tie.InvT-loop
 Inv-loop t descriptors d₀ d = (d ≤ 256) × (upTo (descriptorBlockFits t descriptors) d ≡ true)
@@ -18,31 +14,24 @@ Inv-loop t descriptors d₀ d = (d ≤ 256) × (upTo (descriptorBlockFits t desc
 abbrev μ-loop : tie.MeasureT-loop
 μ-loop t descriptors d₀ d = 256 - d
 
--- src/lib.rt:307:5
 loop-holds : tie.Need-loop-holds Inv-loop μ-loop
 loop-holds c = search (needs, upTo-none)
 
--- src/lib.rt:308:13
 descriptor-block-fits-requires : tie.Need-descriptor-block-fits-requires Inv-loop μ-loop
 descriptor-block-fits-requires c κs = search needs
 
--- src/lib.rt:309:13
 returns : tie.Need-returns Inv-loop μ-loop
 returns c = search (needs, test-fails)
 
--- src/lib.rt:311:9
 add-d : tie.Need-add-d Inv-loop μ-loop
 add-d c = search needs
 
--- src/lib.rt:307:5
 loop-less : tie.Need-loop-less Inv-loop μ-loop
 loop-less c = search needs
 
--- src/lib.rt:307:5
 loop-again : tie.Need-loop-again Inv-loop μ-loop
 loop-again c = search (needs, tests-again)
 
--- src/lib.rt:303:1
 returns-2 : tie.Need-returns-2 Inv-loop μ-loop
 returns-2 c = search (needs, tests-done)
 

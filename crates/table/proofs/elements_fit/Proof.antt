@@ -2,15 +2,11 @@ use Rattle.table.specs.Parts.{elementFits}
 use Rattle.paper.specs.Common.{upTo}
 use mathlib.Core.Path.{_≡_}
 use mathlib.Core.Bool.{true}
-use Prim.Native.Nat.{_≤_, _-_, _+_}
+use Prim.Native.Nat.{_≤_, _-_}
 use Rattle.laws.proofs.Tests.{upTo-none, tests-again, test-fails, tests-done}
 use borrow.Author.Needs.{needs}
-use native.Mathlib.Omega.{arith}
 use Rattle.table.proofs.elements_fit.Statement.{statement}
 use Rattle.table.proofs.elements_fit.Tie as tie
-use Rattle.table.proofs.elements_fit.Reads as reads
-use Rattle.table.proofs.elements_fit.Lts as lts
-use Rattle.table.proofs.element_fits.Reads as element-fits-reads
 
 abbrev Inv-loop : tie.InvT-loop
 Inv-loop t at i₀ i = (i ≤ 16) × (upTo (elementFits t at) i ≡ true)
@@ -18,31 +14,24 @@ Inv-loop t at i₀ i = (i ≤ 16) × (upTo (elementFits t at) i ≡ true)
 abbrev μ-loop : tie.MeasureT-loop
 μ-loop t at i₀ i = 16 - i
 
--- src/lib.rt:155:5
 loop-holds : tie.Need-loop-holds Inv-loop μ-loop
 loop-holds c = search (needs, upTo-none)
 
--- src/lib.rt:156:13
 element-fits-requires : tie.Need-element-fits-requires Inv-loop μ-loop
 element-fits-requires c κs = search needs
 
--- src/lib.rt:157:13
 returns : tie.Need-returns Inv-loop μ-loop
 returns c = search (needs, test-fails)
 
--- src/lib.rt:159:9
 add-i : tie.Need-add-i Inv-loop μ-loop
 add-i c = search needs
 
--- src/lib.rt:155:5
 loop-less : tie.Need-loop-less Inv-loop μ-loop
 loop-less c = search needs
 
--- src/lib.rt:155:5
 loop-again : tie.Need-loop-again Inv-loop μ-loop
 loop-again c = search (needs, tests-again)
 
--- src/lib.rt:150:1
 returns-2 : tie.Need-returns-2 Inv-loop μ-loop
 returns-2 c = search (needs, tests-done)
 

@@ -6,12 +6,8 @@ use mathlib.Core.Bool.{true}
 use Prim.Native.Nat.{_≤_, _-_}
 use Rattle.laws.proofs.Tests.{upTo-none, tests-again, test-fails, tests-done}
 use borrow.Author.Needs.{needs}
-use native.Mathlib.Omega.{arith}
 use Rattle.table.proofs.entries_fit.Statement.{statement}
 use Rattle.table.proofs.entries_fit.Tie as tie
-use Rattle.table.proofs.entries_fit.Reads as reads
-use Rattle.table.proofs.entries_fit.Lts as lts
-use Rattle.table.proofs.entry_block_fits.Reads as entry-block-fits-reads
 
 abbrev Inv-loop : tie.InvT-loop
 Inv-loop t k₀ k = (k ≤ 128) × (upTo (entryBlockFits t) k ≡ true)
@@ -19,32 +15,25 @@ Inv-loop t k₀ k = (k ≤ 128) × (upTo (entryBlockFits t) k ≡ true)
 abbrev μ-loop : tie.MeasureT-loop
 μ-loop t k₀ k = 128 - k
 
--- src/lib.rt:282:5
 loop-holds : tie.Need-loop-holds Inv-loop μ-loop
 loop-holds c = search (needs, upTo-none)
 
--- src/lib.rt:283:13
 entry-block-fits-requires : tie.Need-entry-block-fits-requires Inv-loop μ-loop
 entry-block-fits-requires c κs = search needs
 
--- src/lib.rt:284:13
 returns : tie.Need-returns Inv-loop μ-loop
 unfolding entriesFit
 returns c = search (needs, test-fails)
 
--- src/lib.rt:286:9
 add-k : tie.Need-add-k Inv-loop μ-loop
 add-k c = search needs
 
--- src/lib.rt:282:5
 loop-less : tie.Need-loop-less Inv-loop μ-loop
 loop-less c = search needs
 
--- src/lib.rt:282:5
 loop-again : tie.Need-loop-again Inv-loop μ-loop
 loop-again c = search (needs, tests-again)
 
--- src/lib.rt:278:1
 returns-2 : tie.Need-returns-2 Inv-loop μ-loop
 unfolding entriesFit
 returns-2 c = search (needs, tests-done)

@@ -1,99 +1,72 @@
 use mathlib.Core.Bool.{and-false}
-use mathlib.Core.Path.{refl}
 use Rattle.laws.proofs.Chains.{not-below-it, below-it, is-it, is-not, told-no, told-yes}
 use Rattle.table.proofs.Laws.{grant-no, grant-yes}
 use Rattle.paper.specs.Table.{entryFits}
-use native.Mathlib.Omega.{arith}
 use borrow.Author.Needs.{needs}
 use Rattle.table.proofs.entry_fits.Statement.{statement}
 use Rattle.table.proofs.entry_fits.Tie as tie
-use Rattle.table.proofs.entry_fits.Reads as reads
-use Rattle.table.proofs.entry_fits.Lts as lts
-use Rattle.table.proofs.context_fits.Reads as context-fits-reads
-use Rattle.table.proofs.count.Reads as count-reads
-use Rattle.table.proofs.grant_fits.Reads as grant-fits-reads
-use Rattle.table.proofs.is_zero.Reads as is-zero-reads
-use Rattle.table.proofs.word.Reads as word-reads
 
--- src/lib.rt:234:9
 count-requires : tie.Need-count-requires
 count-requires c κs = search needs
 
--- src/lib.rt:235:9
 context-fits-requires : tie.Need-context-fits-requires
 context-fits-requires c κs = search needs
 
--- src/lib.rt:236:9
 returns : tie.Need-returns
 unfolding entryFits
 returns c =
     simp (told-no _ _ (c .before .context-fits .ensures) (c .if1 .taken))
 
--- src/lib.rt:238:28
 add-count : tie.Need-add-count
 add-count c = search needs
 
--- src/lib.rt:238:19
 count-requires-2 : tie.Need-count-requires-2
 count-requires-2 c κs = search needs
 
--- src/lib.rt:239:9
 returns-2 : tie.Need-returns-2
 unfolding entryFits
 returns-2 c =
     simp (not-below-it _ _ _ _ (c .before .count2 .ensures .0) (c .before .before .before .before .count .ensures .0) (c .if2 .taken), and-false)
 
--- src/lib.rt:241:16
 add-word : tie.Need-add-word
 add-word c = search needs
 
--- src/lib.rt:241:8
 word-requires : tie.Need-word-requires
 word-requires c κs = search needs
 
--- src/lib.rt:242:9
 returns-3 : tie.Need-returns-3
 unfolding entryFits
 returns-3 c =
     simp (is-not _ 0 _ (c .before .word .ensures) (c .if3 .taken), and-false)
 
--- src/lib.rt:244:23
 add-grant-fits : tie.Need-add-grant-fits
 add-grant-fits c = search needs
 
--- src/lib.rt:244:9
 grant-fits-requires : tie.Need-grant-fits-requires
 grant-fits-requires c κs = search needs
 
--- src/lib.rt:245:9
 returns-4 : tie.Need-returns-4
 unfolding entryFits
 returns-4 c =
     simp (grant-no _ _ _ _ _ (c .before .grant-fits .ensures) (c .before .before .before .before .before .before .before .before .count .ensures .0) (c .if4 .taken), and-false)
 
--- src/lib.rt:247:23
 add-grant-fits-2 : tie.Need-add-grant-fits-2
 add-grant-fits-2 c = search needs
 
--- src/lib.rt:247:9
 grant-fits-requires-2 : tie.Need-grant-fits-requires-2
 grant-fits-requires-2 c κs = search needs
 
--- src/lib.rt:248:9
 returns-5 : tie.Need-returns-5
 unfolding entryFits
 returns-5 c =
     simp (grant-no _ _ _ _ _ (c .before .grant-fits2 .ensures) (c .before .before .before .before .before .before .before .before .before .before .count .ensures .0) (c .if5 .taken), and-false)
 
--- src/lib.rt:250:16
 add-is-zero : tie.Need-add-is-zero
 add-is-zero c = search needs
 
--- src/lib.rt:250:5
 is-zero-requires : tie.Need-is-zero-requires
 is-zero-requires c κs = search needs
 
--- src/lib.rt:230:1
 returns-6 : tie.Need-returns-6
 unfolding entryFits
 returns-6 c =

@@ -1,16 +1,10 @@
-use Rattle.table.proofs.Laws.{sum-none}
-use Rattle.table.proofs.Laws.{sum-ends}
+use Rattle.table.proofs.Laws.{sum-none, sum-ends, sum-again}
 use Rattle.paper.specs.Table.{firstDescriptor}
 use mathlib.Core.Path.{_≡_}
 use Prim.Native.Nat.{_≤_, _-_, _*_}
-use Rattle.table.proofs.Laws.{sum-again}
 use borrow.Author.Needs.{needs}
-use native.Mathlib.Omega.{arith}
 use Rattle.table.proofs.first_descriptor.Statement.{statement}
 use Rattle.table.proofs.first_descriptor.Tie as tie
-use Rattle.table.proofs.first_descriptor.Reads as reads
-use Rattle.table.proofs.first_descriptor.Lts as lts
-use Rattle.table.proofs.count.Reads as count-reads
 
 abbrev Inv-loop : tie.InvT-loop
 Inv-loop t n sum₀ k₀ sum k = (k ≤ n) × (sum ≡ firstDescriptor t k) × (sum ≤ 131070 * k)
@@ -18,63 +12,48 @@ Inv-loop t n sum₀ k₀ sum k = (k ≤ n) × (sum ≡ firstDescriptor t k) × (
 abbrev μ-loop : tie.MeasureT-loop
 μ-loop t n sum₀ k₀ sum k = n - k
 
--- src/lib.rt:69:5
 loop-holds : tie.Need-loop-holds Inv-loop μ-loop
 loop-holds c = search (needs, sum-none)
 
--- src/lib.rt:70:37
 mul-count : tie.Need-mul-count Inv-loop μ-loop
 mul-count c = search needs
 
--- src/lib.rt:70:30
 add-count : tie.Need-add-count Inv-loop μ-loop
 add-count c = search needs
 
--- src/lib.rt:70:30
 add-count-2 : tie.Need-add-count-2 Inv-loop μ-loop
 add-count-2 c = search needs
 
--- src/lib.rt:70:21
 count-requires : tie.Need-count-requires Inv-loop μ-loop
 count-requires c κs = search needs
 
--- src/lib.rt:70:15
 add-sum : tie.Need-add-sum Inv-loop μ-loop
 add-sum c = search needs
 
--- src/lib.rt:70:68
 mul-count-2 : tie.Need-mul-count-2 Inv-loop μ-loop
 mul-count-2 c = search needs
 
--- src/lib.rt:70:61
 add-count-3 : tie.Need-add-count-3 Inv-loop μ-loop
 add-count-3 c = search needs
 
--- src/lib.rt:70:61
 add-count-4 : tie.Need-add-count-4 Inv-loop μ-loop
 add-count-4 c = search needs
 
--- src/lib.rt:70:52
 count-requires-2 : tie.Need-count-requires-2 Inv-loop μ-loop
 count-requires-2 c κs = search needs
 
--- src/lib.rt:70:15
 add-sum-2 : tie.Need-add-sum-2 Inv-loop μ-loop
 add-sum-2 c = search needs
 
--- src/lib.rt:71:9
 add-k : tie.Need-add-k Inv-loop μ-loop
 add-k c = search needs
 
--- src/lib.rt:69:5
 loop-less : tie.Need-loop-less Inv-loop μ-loop
 loop-less c = search needs
 
--- src/lib.rt:69:5
 loop-again : tie.Need-loop-again Inv-loop μ-loop
 loop-again c = search (needs, sum-again)
 
--- src/lib.rt:63:1
 returns : tie.Need-returns Inv-loop μ-loop
 returns c = search (needs, sum-ends)
 

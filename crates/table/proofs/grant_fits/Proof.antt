@@ -3,16 +3,11 @@ use Rattle.table.specs.Parts.{setWordFits}
 use Rattle.paper.specs.Common.{upTo}
 use mathlib.Core.Path.{_≡_}
 use mathlib.Core.Bool.{true}
-use Prim.Native.Nat.{_≤_, _-_, _+_}
-use Rattle.laws.proofs.Tests.{upTo-none, tests-again, test-fails, tests-done}
+use Prim.Native.Nat.{_≤_, _-_}
+use Rattle.laws.proofs.Tests.{upTo-none, tests-again}
 use borrow.Author.Needs.{needs}
-use native.Mathlib.Omega.{arith}
 use Rattle.table.proofs.grant_fits.Statement.{statement}
 use Rattle.table.proofs.grant_fits.Tie as tie
-use Rattle.table.proofs.grant_fits.Reads as reads
-use Rattle.table.proofs.grant_fits.Lts as lts
-use Rattle.table.proofs.set_word_fits.Reads as set-word-fits-reads
-use Rattle.table.proofs.word.Reads as word-reads
 
 abbrev Inv-loop : tie.InvT-loop
 Inv-loop t at domains j₀ j = (j ≤ 8) × (upTo (setWordFits t at domains) j ≡ true)
@@ -20,39 +15,30 @@ Inv-loop t at domains j₀ j = (j ≤ 8) × (upTo (setWordFits t at domains) j �
 abbrev μ-loop : tie.MeasureT-loop
 μ-loop t at domains j₀ j = 8 - j
 
--- src/lib.rt:217:12
 word-requires : tie.Need-word-requires Inv-loop μ-loop
 word-requires c κs = search needs
 
--- src/lib.rt:218:9
 returns : tie.Need-returns Inv-loop μ-loop
 returns c = search (needs, no-grant)
 
--- src/lib.rt:221:5
 loop-holds : tie.Need-loop-holds Inv-loop μ-loop
 loop-holds c = search (needs, upTo-none)
 
--- src/lib.rt:222:13
 set-word-fits-requires : tie.Need-set-word-fits-requires Inv-loop μ-loop
 set-word-fits-requires c κs = search needs
 
--- src/lib.rt:223:13
 returns-2 : tie.Need-returns-2 Inv-loop μ-loop
 returns-2 c = search (needs, grant-fails)
 
--- src/lib.rt:225:9
 add-j : tie.Need-add-j Inv-loop μ-loop
 add-j c = search needs
 
--- src/lib.rt:221:5
 loop-less : tie.Need-loop-less Inv-loop μ-loop
 loop-less c = search needs
 
--- src/lib.rt:221:5
 loop-again : tie.Need-loop-again Inv-loop μ-loop
 loop-again c = search (needs, tests-again)
 
--- src/lib.rt:213:1
 returns-3 : tie.Need-returns-3 Inv-loop μ-loop
 returns-3 c = search (needs, grant-done)
 

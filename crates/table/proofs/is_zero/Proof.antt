@@ -7,12 +7,8 @@ use Prim.Native.Nat.{_≤_, _-_}
 use Rattle.table.proofs.Laws.{not-zero, zero-again}
 use Rattle.laws.proofs.Tests.{upTo-none, tests-done}
 use borrow.Author.Needs.{needs}
-use native.Mathlib.Omega.{arith}
 use Rattle.table.proofs.is_zero.Statement.{statement}
 use Rattle.table.proofs.is_zero.Tie as tie
-use Rattle.table.proofs.is_zero.Reads as reads
-use Rattle.table.proofs.is_zero.Lts as lts
-use Rattle.table.proofs.word.Reads as word-reads
 
 abbrev Inv-loop : tie.InvT-loop
 Inv-loop t at n i₀ i = (i ≤ n) × (upTo (zeroAt t at) i ≡ true)
@@ -20,35 +16,27 @@ Inv-loop t at n i₀ i = (i ≤ n) × (upTo (zeroAt t at) i ≡ true)
 abbrev μ-loop : tie.MeasureT-loop
 μ-loop t at n i₀ i = n - i
 
--- src/lib.rt:81:5
 loop-holds : tie.Need-loop-holds Inv-loop μ-loop
 loop-holds c = search (needs, upTo-none)
 
--- src/lib.rt:82:20
 add-word : tie.Need-add-word Inv-loop μ-loop
 add-word c = search needs
 
--- src/lib.rt:82:12
 word-requires : tie.Need-word-requires Inv-loop μ-loop
 word-requires c κs = search needs
 
--- src/lib.rt:83:13
 returns : tie.Need-returns Inv-loop μ-loop
 returns c = search (needs, not-zero)
 
--- src/lib.rt:85:9
 add-i : tie.Need-add-i Inv-loop μ-loop
 add-i c = search needs
 
--- src/lib.rt:81:5
 loop-less : tie.Need-loop-less Inv-loop μ-loop
 loop-less c = search needs
 
--- src/lib.rt:81:5
 loop-again : tie.Need-loop-again Inv-loop μ-loop
 loop-again c = search (needs, zero-again)
 
--- src/lib.rt:76:1
 returns-2 : tie.Need-returns-2 Inv-loop μ-loop
 unfolding zeros
 returns-2 c = search (needs, tests-done)

@@ -1,64 +1,47 @@
 use Rattle.table.proofs.Laws.{part-past, part-rest, part-inner}
-use native.Mathlib.Omega.{arith}
 use borrow.Author.Needs.{needs}
 use Rattle.table.proofs.part.Statement.{statement}
 use Rattle.table.proofs.part.Tie as tie
-use Rattle.table.proofs.part.Reads as reads
-use Rattle.table.proofs.part.Lts as lts
 
--- src/lib.rt:36:9
 slice-aggregate-result : tie.Need-slice-aggregate-result
 slice-aggregate-result c = search needs
 
--- src/lib.rt:36:9
 returns : tie.Need-returns
 returns c = search (needs, part-past)
 
--- src/lib.rt:38:8
 sub-if2 : tie.Need-sub-if2
 sub-if2 c = search needs
 
--- src/lib.rt:39:16
 mul-result : tie.Need-mul-result
 mul-result c = search needs
 
--- src/lib.rt:39:16
 sub-result : tie.Need-sub-result
 sub-result c = search needs
 
--- src/lib.rt:39:16
 part-result-start : tie.Need-part-result-start
 part-result-start c = search needs
 
--- src/lib.rt:39:16
 part-result-end : tie.Need-part-result-end
 part-result-end c = search needs
 
--- src/lib.rt:39:9
 returns-2 : tie.Need-returns-2
 returns-2 c = search (needs, part-rest)
 
--- src/lib.rt:41:13
 add-e : tie.Need-add-e
 add-e c = search needs
 
--- src/lib.rt:42:5
 mul-result-2 : tie.Need-mul-result-2
 mul-result-2 c = search needs
 
--- src/lib.rt:42:5
 sub-result-2 : tie.Need-sub-result-2
 sub-result-2 c = search needs
 
--- src/lib.rt:42:5
 part-result-start-2 : tie.Need-part-result-start-2
 part-result-start-2 c = search needs
 
--- src/lib.rt:42:5
 part-result-end-2 : tie.Need-part-result-end-2
 part-result-end-2 c = search needs
 
--- src/lib.rt:31:1
 returns-3 : tie.Need-returns-3
 returns-3 c = search (needs, part-inner)
 

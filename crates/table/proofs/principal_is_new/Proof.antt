@@ -6,13 +6,8 @@ use mathlib.Core.Bool.{true}
 use Prim.Native.Nat.{_≤_, _-_}
 use Rattle.laws.proofs.Tests.{upTo-none, tests-done}
 use borrow.Author.Needs.{needs}
-use native.Mathlib.Omega.{arith}
 use Rattle.table.proofs.principal_is_new.Statement.{statement}
 use Rattle.table.proofs.principal_is_new.Tie as tie
-use Rattle.table.proofs.principal_is_new.Reads as reads
-use Rattle.table.proofs.principal_is_new.Lts as lts
-use Rattle.table.proofs.part.Reads as part-reads
-use Rattle.table.proofs.same_words.Reads as same-words-reads
 
 abbrev Inv-loop : tie.InvT-loop
 Inv-loop t k j₀ j = (j ≤ k) × (upTo (differsFrom t k) j ≡ true)
@@ -20,56 +15,43 @@ Inv-loop t k j₀ j = (j ≤ k) × (upTo (differsFrom t k) j ≡ true)
 abbrev μ-loop : tie.MeasureT-loop
 μ-loop t k j₀ j = k - j
 
--- src/lib.rt:322:5
 loop-holds : tie.Need-loop-holds Inv-loop μ-loop
 loop-holds c = search (needs, upTo-none)
 
--- src/lib.rt:323:38
 mul-part : tie.Need-mul-part Inv-loop μ-loop
 mul-part c = search needs
 
--- src/lib.rt:323:31
 add-part : tie.Need-add-part Inv-loop μ-loop
 add-part c = search needs
 
--- src/lib.rt:323:23
 part-requires : tie.Need-part-requires Inv-loop μ-loop
 part-requires c κs = search needs
 
--- src/lib.rt:323:66
 mul-part-2 : tie.Need-mul-part-2 Inv-loop μ-loop
 mul-part-2 c = search needs
 
--- src/lib.rt:323:59
 add-part-2 : tie.Need-add-part-2 Inv-loop μ-loop
 add-part-2 c = search needs
 
--- src/lib.rt:323:51
 part-requires-2 : tie.Need-part-requires-2 Inv-loop μ-loop
 part-requires-2 c κs = search needs
 
--- src/lib.rt:323:12
 same-words-requires : tie.Need-same-words-requires Inv-loop μ-loop
 same-words-requires c κs = search needs
 
--- src/lib.rt:324:13
 returns : tie.Need-returns Inv-loop μ-loop
 returns c = search (needs, twin-found)
 
--- src/lib.rt:326:9
 add-j : tie.Need-add-j Inv-loop μ-loop
 add-j c = search needs
 
--- src/lib.rt:322:5
 loop-less : tie.Need-loop-less Inv-loop μ-loop
 loop-less c = search needs
 
--- src/lib.rt:322:5
 loop-again : tie.Need-loop-again Inv-loop μ-loop
 loop-again c =
     (search needs, no-twin-yet _ _ _ _ _ _ (c .before .before .before .before .before .loop .inv .1) (c .before .before .before .part .ensures) (c .before .before .part2 .ensures) (c .before .same-words .ensures) (c .if1 .left))
 
--- src/lib.rt:317:1
 returns-2 : tie.Need-returns-2 Inv-loop μ-loop
 returns-2 c = search (needs, tests-done)
 

@@ -5,12 +5,8 @@ use mathlib.Core.Bool.{true}
 use Prim.Native.Nat.{_≤_, _-_}
 use Rattle.laws.proofs.Tests.{upTo-none, tests-again, test-fails, tests-done}
 use borrow.Author.Needs.{needs}
-use native.Mathlib.Omega.{arith}
 use Rattle.table.proofs.principals_differ.Statement.{statement}
 use Rattle.table.proofs.principals_differ.Tie as tie
-use Rattle.table.proofs.principals_differ.Reads as reads
-use Rattle.table.proofs.principals_differ.Lts as lts
-use Rattle.table.proofs.principal_is_new.Reads as principal-is-new-reads
 
 abbrev Inv-loop : tie.InvT-loop
 Inv-loop t entries k₀ k = (k ≤ entries) × (upTo (principalIsNew t) k ≡ true)
@@ -18,31 +14,24 @@ Inv-loop t entries k₀ k = (k ≤ entries) × (upTo (principalIsNew t) k ≡ tr
 abbrev μ-loop : tie.MeasureT-loop
 μ-loop t entries k₀ k = entries - k
 
--- src/lib.rt:336:5
 loop-holds : tie.Need-loop-holds Inv-loop μ-loop
 loop-holds c = search (needs, upTo-none)
 
--- src/lib.rt:337:13
 principal-is-new-requires : tie.Need-principal-is-new-requires Inv-loop μ-loop
 principal-is-new-requires c κs = search needs
 
--- src/lib.rt:338:13
 returns : tie.Need-returns Inv-loop μ-loop
 returns c = search (needs, test-fails)
 
--- src/lib.rt:340:9
 add-k : tie.Need-add-k Inv-loop μ-loop
 add-k c = search needs
 
--- src/lib.rt:336:5
 loop-less : tie.Need-loop-less Inv-loop μ-loop
 loop-less c = search needs
 
--- src/lib.rt:336:5
 loop-again : tie.Need-loop-again Inv-loop μ-loop
 loop-again c = search (needs, tests-again)
 
--- src/lib.rt:331:1
 returns-2 : tie.Need-returns-2 Inv-loop μ-loop
 returns-2 c = search (needs, tests-done)
 

@@ -2,55 +2,38 @@ use mathlib.Core.Bool.{and-false}
 use Rattle.laws.proofs.Chains.{told-no}
 use Rattle.table.proofs.Laws.{descriptors-no, principals-no, rest-holds}
 use Rattle.table.specs.Parts.{restFits}
-use native.Mathlib.Omega.{arith}
 use borrow.Author.Needs.{needs}
 use Rattle.table.proofs.rest_fits.Statement.{statement}
 use Rattle.table.proofs.rest_fits.Tie as tie
-use Rattle.table.proofs.rest_fits.Reads as reads
-use Rattle.table.proofs.rest_fits.Lts as lts
-use Rattle.table.proofs.descriptors_fit.Reads as descriptors-fit-reads
-use Rattle.table.proofs.first_descriptor.Reads as first-descriptor-reads
-use Rattle.table.proofs.is_zero.Reads as is-zero-reads
-use Rattle.table.proofs.principals_differ.Reads as principals-differ-reads
-use Rattle.table.proofs.variables_bound.Reads as variables-bound-reads
 
--- src/lib.rt:420:28
 first-descriptor-requires : tie.Need-first-descriptor-requires
 first-descriptor-requires c κs = search needs
 
--- src/lib.rt:420:9
 descriptors-fit-requires : tie.Need-descriptors-fit-requires
 descriptors-fit-requires c κs = search needs
 
--- src/lib.rt:421:9
 returns : tie.Need-returns
 returns c =
     search (needs, descriptors-no)
 
--- src/lib.rt:423:9
 is-zero-requires : tie.Need-is-zero-requires
 is-zero-requires c κs = search needs
 
--- src/lib.rt:424:9
 returns-2 : tie.Need-returns-2
 unfolding restFits
 returns-2 c =
     simp (told-no _ _ (c .before .is-zero .ensures) (c .if2 .taken), and-false)
 
--- src/lib.rt:426:9
 principals-differ-requires : tie.Need-principals-differ-requires
 principals-differ-requires c κs = search needs
 
--- src/lib.rt:427:9
 returns-3 : tie.Need-returns-3
 returns-3 c =
     search (needs, principals-no)
 
--- src/lib.rt:429:5
 variables-bound-requires : tie.Need-variables-bound-requires
 variables-bound-requires c κs = search needs
 
--- src/lib.rt:416:1
 returns-4 : tie.Need-returns-4
 returns-4 c =
     rest-holds _ _ _ _ _ _ _ (c .before .before .before .before .before .before .before .before .before .pre .0) (c .before .before .before .before .before .before .before .first-descriptor .ensures) (c .before .before .before .before .before .before .descriptors-fit .ensures) (c .before .before .before .before .before .if1 .left) (c .before .before .before .before .is-zero .ensures) (c .before .before .before .if2 .left) (c .before .before .principals-differ .ensures) (c .before .if3 .left) (c .variables-bound .ensures)

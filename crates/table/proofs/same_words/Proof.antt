@@ -4,11 +4,8 @@ use lib.ListN.{length, drop}
 use Prim.Native.Nat.{_≤_, _-_}
 use Rattle.laws.proofs.Tests.{same-lengths, same-differs, same-again, same-ends}
 use borrow.Author.Needs.{needs}
-use native.Mathlib.Omega.{arith}
 use Rattle.table.proofs.same_words.Statement.{statement}
 use Rattle.table.proofs.same_words.Tie as tie
-use Rattle.table.proofs.same_words.Reads as reads
-use Rattle.table.proofs.same_words.Lts as lts
 
 abbrev Inv-loop : tie.InvT-loop
 Inv-loop x y i₀ i = (i ≤ length x) × (same (drop i x) (drop i y) ≡ same x y)
@@ -16,47 +13,36 @@ Inv-loop x y i₀ i = (i ≤ length x) × (same (drop i x) (drop i y) ≡ same x
 abbrev μ-loop : tie.MeasureT-loop
 μ-loop x y i₀ i = length x - i
 
--- src/lib.rt:50:9
 returns : tie.Need-returns Inv-loop μ-loop
 returns c = search (needs, same-lengths)
 
--- src/lib.rt:53:5
 loop-holds : tie.Need-loop-holds Inv-loop μ-loop
 loop-holds c = search needs
 
--- src/lib.rt:54:12
 mul-if2 : tie.Need-mul-if2 Inv-loop μ-loop
 mul-if2 c = search needs
 
--- src/lib.rt:54:12
 shared-slice-read-if2 : tie.Need-shared-slice-read-if2 Inv-loop μ-loop
 shared-slice-read-if2 c = search needs
 
--- src/lib.rt:54:20
 mul-if2-2 : tie.Need-mul-if2-2 Inv-loop μ-loop
 mul-if2-2 c = search needs
 
--- src/lib.rt:54:20
 shared-slice-read-if2-2 : tie.Need-shared-slice-read-if2-2 Inv-loop μ-loop
 shared-slice-read-if2-2 c = search needs
 
--- src/lib.rt:55:13
 returns-2 : tie.Need-returns-2 Inv-loop μ-loop
 returns-2 c = search (needs, same-differs)
 
--- src/lib.rt:57:9
 add-i : tie.Need-add-i Inv-loop μ-loop
 add-i c = search needs
 
--- src/lib.rt:53:5
 loop-less : tie.Need-loop-less Inv-loop μ-loop
 loop-less c = search needs
 
--- src/lib.rt:53:5
 loop-again : tie.Need-loop-again Inv-loop μ-loop
 loop-again c = search (needs, same-again)
 
--- src/lib.rt:46:1
 returns-3 : tie.Need-returns-3 Inv-loop μ-loop
 returns-3 c = search (needs, same-ends)
 

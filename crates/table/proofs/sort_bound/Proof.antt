@@ -1,16 +1,11 @@
 use Rattle.table.proofs.Laws.{bound-variable, no-variable}
 use borrow.Author.Needs.{needs}
-use native.Mathlib.Omega.{arith}
 use Rattle.table.proofs.sort_bound.Statement.{statement}
 use Rattle.table.proofs.sort_bound.Tie as tie
-use Rattle.table.proofs.sort_bound.Reads as reads
-use Rattle.table.proofs.sort_bound.Lts as lts
 
--- src/lib.rt:346:1
 returns : tie.Need-returns
 returns c = search (needs, bound-variable)
 
--- src/lib.rt:346:1
 returns-2 : tie.Need-returns-2
 returns-2 c = search (needs, no-variable)
 

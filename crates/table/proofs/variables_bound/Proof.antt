@@ -7,13 +7,8 @@ use mathlib.Core.Bool.{true}
 use Prim.Native.Nat.{_≤_, _-_, _*_}
 use Rattle.laws.proofs.Tests.{upTo-none, tests-done}
 use borrow.Author.Needs.{needs}
-use native.Mathlib.Omega.{arith}
 use Rattle.table.proofs.variables_bound.Statement.{statement}
 use Rattle.table.proofs.variables_bound.Tie as tie
-use Rattle.table.proofs.variables_bound.Reads as reads
-use Rattle.table.proofs.variables_bound.Lts as lts
-use Rattle.table.proofs.count.Reads as count-reads
-use Rattle.table.proofs.descriptors_bound.Reads as descriptors-bound-reads
 
 abbrev Inv-loop : tie.InvT-loop
 Inv-loop t entries first₀ k₀ first k = (k ≤ entries) × (first ≡ firstDescriptor t k) × (first ≤ 131070 * k) × (upTo (entryBound t) k ≡ true)
@@ -21,64 +16,49 @@ Inv-loop t entries first₀ k₀ first k = (k ≤ entries) × (first ≡ firstDe
 abbrev μ-loop : tie.MeasureT-loop
 μ-loop t entries first₀ k₀ first k = entries - k
 
--- src/lib.rt:387:5
 loop-holds : tie.Need-loop-holds Inv-loop μ-loop
 loop-holds c = search (needs, upTo-none, sum-none)
 
--- src/lib.rt:388:28
 mul-entry : tie.Need-mul-entry Inv-loop μ-loop
 mul-entry c = search needs
 
--- src/lib.rt:388:21
 add-entry : tie.Need-add-entry Inv-loop μ-loop
 add-entry c = search needs
 
--- src/lib.rt:389:26
 add-count : tie.Need-add-count Inv-loop μ-loop
 add-count c = search needs
 
--- src/lib.rt:389:17
 count-requires : tie.Need-count-requires Inv-loop μ-loop
 count-requires c κs = search needs
 
--- src/lib.rt:389:49
 add-count-2 : tie.Need-add-count-2 Inv-loop μ-loop
 add-count-2 c = search needs
 
--- src/lib.rt:389:40
 count-requires-2 : tie.Need-count-requires-2 Inv-loop μ-loop
 count-requires-2 c κs = search needs
 
--- src/lib.rt:389:17
 add-n : tie.Need-add-n Inv-loop μ-loop
 add-n c = search needs
 
--- src/lib.rt:390:13
 descriptors-bound-requires : tie.Need-descriptors-bound-requires Inv-loop μ-loop
 descriptors-bound-requires c κs = search needs
 
--- src/lib.rt:391:13
 returns : tie.Need-returns Inv-loop μ-loop
 returns c = search (needs, entry-unbound)
 
--- src/lib.rt:393:9
 add-first : tie.Need-add-first Inv-loop μ-loop
 add-first c = search needs
 
--- src/lib.rt:394:9
 add-k : tie.Need-add-k Inv-loop μ-loop
 add-k c = search needs
 
--- src/lib.rt:387:5
 loop-less : tie.Need-loop-less Inv-loop μ-loop
 loop-less c = search needs
 
--- src/lib.rt:387:5
 loop-again : tie.Need-loop-again Inv-loop μ-loop
 loop-again c =
     (search needs, sum-of-both _ _ _ _ _ (c .before .before .before .before .before .loop .inv .1) (c .before .before .before .count .ensures .0) (c .before .before .count2 .ensures .0), search needs, entry-bound _ _ _ _ _ _ (c .before .before .before .before .before .loop .inv .3) (c .before .before .before .before .before .loop .inv .1) (c .before .before .before .count .ensures .0) (c .before .before .count2 .ensures .0) (c .before .descriptors-bound .ensures) (c .if1 .left))
 
--- src/lib.rt:381:1
 returns-2 : tie.Need-returns-2 Inv-loop μ-loop
 returns-2 c = search (needs, tests-done)
 
