@@ -15,6 +15,7 @@ abbrev pub readingNumber : Reading → ℕ
 readingNumber Accepted = 0
 readingNumber (Unread number line) = number
 
+-- its line
 abbrev pub readingLine : Reading → ℕ
 readingLine Accepted = 0
 readingLine (Unread number line) = line
@@ -24,10 +25,12 @@ abbrev pub fillingNumber : Filling → ℕ
 fillingNumber (Written size) = 0
 fillingNumber (Unfilled number line) = number
 
+-- its line
 abbrev pub fillingLine : Filling → ℕ
 fillingLine (Written size) = 0
 fillingLine (Unfilled number line) = line
 
+-- "a refusal's other results are zero"
 abbrev pub fillingLength : Filling → ℕ
 fillingLength (Written size) = size
 fillingLength (Unfilled number line) = 0
@@ -39,12 +42,14 @@ verdictNumber (Granted entry) = 0
 verdictNumber (Violation number) = 0
 verdictNumber (Unjudged number) = number
 
+-- "violation 1" to "violation 4"
 abbrev pub verdictViolation : Verdict → ℕ
 verdictViolation Inside = 0
 verdictViolation (Granted entry) = 0
 verdictViolation (Violation number) = number
 verdictViolation (Unjudged number) = 0
 
+-- "allowed, with the lowest matching entry that grants"
 abbrev pub verdictEntry : Verdict → ℕ
 verdictEntry Inside = 0
 verdictEntry (Granted entry) = entry
@@ -65,6 +70,7 @@ pub record Found : Type 0 where
   pub uid : ℕ
   pub gid : ℕ
 
+-- "the pair .., the stack's length, uid .. and gid"; "clear, its numbers .. zero"
 abbrev pub reportFound : Report → Found
 reportFound Clear = record { lower = 0; higher = 0; depth = 0; uid = 0; gid = 0 }
 reportFound (Clash lower higher depth uid gid) = record { lower = lower; higher = higher; depth = depth; uid = uid; gid = gid }

@@ -8,6 +8,7 @@ use Rattle.paper.specs.Common.{bytes, anyOf, isEmpty}
 use Rattle.paper.specs.Listing.{principal, executionContext, canRead, canWrite, callContextIn, objectContextIn, objectsIn}
 use Rattle.paper.specs.Page.{Field}
 
+-- the field stands at this place of the listing
 abbrev pub isAt : ℕ → Field → Bool
 isAt place f = eqb (f .place) place
 

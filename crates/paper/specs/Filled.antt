@@ -13,6 +13,7 @@ use Rattle.paper.specs.Entries.{valueAt, upToNext, entriesOf, itemsOf}
 unfoldable pub keyLine : ℕ → List ℕ → List ℕ
 keyLine place v = keyAt place ++ (space ∷ (v ++ (lineFeed ∷ [])))
 
+-- a line that ends at the colon
 unfoldable pub bareLine : ℕ → List ℕ
 bareLine place = keyAt place ++ (lineFeed ∷ [])
 
@@ -29,6 +30,7 @@ unfoldable pub contextText : ℕ → List Field → List ℕ
 contextText place fs =
     bareLine place ++ (valueLine (callContextIn place) fs ++ (valueLine (uidIn place) fs ++ valueLine (gidIn place) fs))
 
+-- an item, "each with `objects`" and its context
 unfoldable pub itemText : ℕ → List Field → List ℕ
 itemText access item = valueLine (objectsIn access) item ++ contextText (objectContextIn access) item
 
@@ -39,6 +41,7 @@ accessText access entry =
     (valueLine access entry)
     (bareLine access ++ flatMap (itemText access) (itemsOf access entry))
 
+-- an entry: "all else keeps its order", and "omitted `can_` fields become `all`"
 unfoldable pub entryText : List Field → List ℕ
 entryText entry =
     bareLine principal
@@ -48,5 +51,6 @@ entryText entry =
     ++ (valueLine canReturn entry
     ++ (accessText canRead entry ++ accessText canWrite entry)))))
 
+-- the whole: the maps as they were written, then every entry
 unfoldable pub filledText : List Field → List ℕ
 filledText file = flatMap writtenLine (upToNext principal file) ++ flatMap entryText (entriesOf file)

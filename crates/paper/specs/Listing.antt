@@ -54,42 +54,55 @@ valueFault (listOrAll s) v = cond (is "all" v) 0 (listFault s v)
 abbrev pub objectMap : ℕ
 objectMap = 1
 
+-- its domains: "`name`, `objects` .. in the maps are required"
 abbrev pub objectName : ℕ
 objectName = 2
 
+-- their objects
 abbrev pub objectMembers : ℕ
 objectMembers = 3
 
+-- the second map
 abbrev pub subjectMap : ℕ
 subjectMap = 4
 
+-- its domains
 abbrev pub subjectName : ℕ
 subjectName = 5
 
+-- their functions
 abbrev pub subjectMembers : ℕ
 subjectMembers = 6
 
+-- the entries
 abbrev pub privileges : ℕ
 privileges = 7
 
+-- "In an entry, `principal` with `subject` is required"
 abbrev pub principal : ℕ
 principal = 8
 
+-- the `subject` of a principal
 abbrev pub subjectOfEntry : ℕ
 subjectOfEntry = 9
 
+-- the first context; its three keys stand behind it
 abbrev pub executionContext : ℕ
 executionContext = 10
 
+-- "the four `can_` fields": the first
 abbrev pub canCall : ℕ
 canCall = 14
 
+-- the second
 abbrev pub canReturn : ℕ
 canReturn = 15
 
+-- the third; an item and its context stand behind it
 abbrev pub canRead : ℕ
 canRead = 16
 
+-- the fourth, likewise
 abbrev pub canWrite : ℕ
 canWrite = 22
 
@@ -97,15 +110,19 @@ canWrite = 22
 abbrev pub callContextIn : ℕ → ℕ
 callContextIn context = context + 1
 
+-- its `uid`
 abbrev pub uidIn : ℕ → ℕ
 uidIn context = context + 2
 
+-- its `gid`
 abbrev pub gidIn : ℕ → ℕ
 gidIn context = context + 3
 
+-- an item of `can_read` or `can_write`: its `objects`
 abbrev pub objectsIn : ℕ → ℕ
 objectsIn access = access + 1
 
+-- and its `object_context`
 abbrev pub objectContextIn : ℕ → ℕ
 objectContextIn access = access + 2
 
@@ -121,6 +138,7 @@ pub record Row : Type 0 where
   -- the text may end with it
   pub last : Bool
 
+-- a row, its parts in order
 abbrev pub row : String → Value → List ℕ → List ℕ → Bool → Row
 row k v b n l = record { key = k; value = v; block = b; next = n; last = l }
 
@@ -128,15 +146,19 @@ row k v b n l = record { key = k; value = v; block = b; next = n; last = l }
 abbrev pub afterWrite : List ℕ
 afterWrite = principal ∷ []
 
+-- after `can_read`
 abbrev pub afterRead : List ℕ
 afterRead = canWrite ∷ afterWrite
 
+-- after `can_return`
 abbrev pub afterReturn : List ℕ
 afterReturn = canRead ∷ afterRead
 
+-- after `can_call`
 abbrev pub afterCall : List ℕ
 afterCall = canReturn ∷ afterReturn
 
+-- after the principal
 abbrev pub afterPrincipal : List ℕ
 afterPrincipal = canCall ∷ afterCall
 
@@ -174,9 +196,11 @@ listing =
     ∷ row "  can_return:" (listOrAll domainName) [] afterReturn true
     ∷ (accessRows canRead "  can_read:" afterRead ++ accessRows canWrite "  can_write:" afterWrite)))
 
+-- the row of a place
 unfoldable pub rowAt : ℕ → Row
 rowAt place = getD listing place (row "" keys [] [] false)
 
+-- the key of a place, as bytes
 unfoldable pub keyAt : ℕ → List ℕ
 keyAt place = bytes (rowAt place .key)
 
@@ -188,5 +212,6 @@ dashed l = startsWith (bytes "- ") (drop (column l) l)
 unfoldable pub alongside : List ℕ → List ℕ → Bool
 alongside key l = eqb (column l) (column key) && (not (dashed key) || dashed l)
 
+-- a line stands where the block of this place would begin
 unfoldable pub atBlock : ℕ → List ℕ → Bool
 atBlock place l = alongside (keyAt (getD (rowAt place .block) 0 0)) l

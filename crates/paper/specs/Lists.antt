@@ -8,6 +8,7 @@ use Rattle.paper.specs.Common.{isEmpty, allOf, cut}
 use Rattle.paper.specs.Text.{space}
 use Rattle.paper.specs.Scalars.{Scalar, isScalar}
 
+-- "one space after each comma"
 abbrev pub comma : ℕ
 comma = 44
 

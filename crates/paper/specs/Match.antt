@@ -23,10 +23,12 @@ unfoldable pub swallowing : (List ℕ → Bool) → List ℕ → Bool
 swallowing rest [] = rest []
 swallowing rest (x ∷ stack) = rest (x ∷ stack) || swallowing rest stack
 
+-- "a first function equals the first frame and the rest of the pattern against the rest of the stack matches"
 unfoldable pub firstEquals : ℕ → (List ℕ → Bool) → List ℕ → Bool
 firstEquals f rest [] = false
 firstEquals f rest (x ∷ stack) = eqb f x && rest stack
 
+-- the three clauses together
 unfoldable pub matches : List Element → List ℕ → Bool
 matches [] stack = isEmpty stack
 matches (all ∷ pattern) stack = swallowing (matches pattern) stack
@@ -37,14 +39,17 @@ pub empty-meets-empty : matches [] [] ≡ true
 unfolding matches
 empty-meets-empty = refl
 
+-- "a first function equals the first frame and the rest .. matches"
 pub first-function : (f : ℕ) (pattern : List Element) (x : ℕ) (stack : List ℕ) → matches (fn f ∷ pattern) (x ∷ stack) ≡ (eqb f x && matches pattern stack)
 unfolding matches firstEquals
 first-function f pattern x stack = refl
 
+-- "a first `all` .. drops out": on an empty stack it can do nothing else
 pub all-drops-out : (pattern : List Element) → matches (all ∷ pattern) [] ≡ matches pattern []
 unfolding matches swallowing
 all-drops-out pattern = refl
 
+-- "a first `all` either drops out or swallows one frame and stays"
 pub all-drops-out-or-swallows : (pattern : List Element) (x : ℕ) (stack : List ℕ) → matches (all ∷ pattern) (x ∷ stack) ≡ (matches pattern (x ∷ stack) || matches (all ∷ pattern) stack)
 unfolding matches swallowing
 all-drops-out-or-swallows pattern x stack = refl
@@ -70,6 +75,7 @@ sortFits variable id = true
 sortFits root id = eqb id 0
 sortFits user id = not (eqb id 0)
 
+-- an entry at a moment
 unfoldable pub entryMatches : Policy → Entry → Moment → Bool
 entryMatches p e m =
     topLiesIn p (e .subject) (m .stack)
@@ -79,6 +85,7 @@ entryMatches p e m =
 
 -- ---- "An object context fits an allocated object likewise, a variable there needing the bound number."
 
+-- a sort against the allocation's number, the entry having bound the moment's
 unfoldable pub allocatedSortFits : Sort → ℕ → ℕ → Bool
 allocatedSortFits anyone bound id = true
 allocatedSortFits variable bound id = eqb id bound
@@ -97,12 +104,14 @@ unfoldable pub isAll : Element → Bool
 isAll all = true
 isAll (fn f) = false
 
+-- a sort that is `all`
 unfoldable pub isAnyone : Sort → Bool
 isAnyone anyone = true
 isAnyone variable = false
 isAnyone root = false
 isAnyone user = false
 
+-- every element, uid and gid are `all`
 unfoldable pub fitsStatic : Context → Bool
 fitsStatic c = allOf isAll (c .pattern) && isAnyone (c .uid) && isAnyone (c .gid)
 
@@ -119,5 +128,6 @@ grants (these set) d = getD set d false
 unfoldable pub descriptorGrants : ℕ → Moment → Moment → Descriptor → Bool
 descriptorGrants d m allocation a = grants (a .objects) d && contextFitsObject (a .context) m allocation
 
+-- "by one descriptor"
 unfoldable pub someDescriptorGrants : List Descriptor → ℕ → Moment → Moment → Bool
 someDescriptorGrants descriptors d m allocation = anyOf (descriptorGrants d m allocation) descriptors

@@ -30,6 +30,7 @@ NeverBoth p i j = (m : Moment) → BothMatch p i j m → ⊥
 abbrev pub PairBefore : ℕ → ℕ → ℕ → ℕ → Type 0
 PairBefore i j lower higher = (i < lower) ⊎ ((i ≡ lower) × (j < higher))
 
+-- an entry "says `user`"
 unfoldable pub isUser : Sort → Bool
 isUser anyone = false
 isUser variable = false

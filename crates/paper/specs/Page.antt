@@ -25,6 +25,7 @@ pub record State : Type 0 where
   pub bare : Bool
   pub line : ℕ
 
+-- before the first line nothing stands open
 unfoldable pub beforeFirst : State
 beforeFirst = record { place = 0; bare = false; line = 0 }
 
@@ -94,10 +95,12 @@ lineStep st n l =
 unfoldable pub atEnd : State → ℕ → Page
 atEnd st n = cond (needsBlock st) (fault 9 (st .line)) (cond (rowAt (st .place) .last) (fields []) (fault 4 n))
 
+-- fields in front of those of the rest; a refusal of the rest stays one
 abbrev pub andFields : List Field → Page → Page
 andFields before (fields after) = fields (before ++ after)
 andFields before (fault number n) = fault number n
 
+-- a step, and then the rest; the first refusal ends the page
 abbrev pub after : Step → (State → Page) → Page
 after (pass st before) rest = andFields before (rest st)
 after (stop number n) rest = fault number n
@@ -107,5 +110,6 @@ unfoldable pub pageFrom : State → ℕ → List Line → Page
 pageFrom st n [] = atEnd st n
 pageFrom st n (l ∷ ls) = after (lineStep st n l) (λ st′. pageFrom st′ (n + 1) ls)
 
+-- a text's page: its lines "numbered, from 1"
 unfoldable pub pageOf : List ℕ → Page
 pageOf t = pageFrom beforeFirst 1 (lines t)

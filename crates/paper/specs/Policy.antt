@@ -33,6 +33,7 @@ pub record Descriptor : Type 0 where
   pub context : Context
   pub objects : Grant
 
+-- an entry: its principal, and what it grants
 pub record Entry : Type 0 where
   pub context : Context
   pub subject : ℕ
@@ -41,6 +42,7 @@ pub record Entry : Type 0 where
   pub reads : List Descriptor
   pub writes : List Descriptor
 
+-- the whole of it
 pub record Policy : Type 0 where
   pub objectDomains : ℕ
   pub subjectDomains : ℕ
@@ -79,6 +81,7 @@ unfoldable pub accessOf : List Field → ℕ → List Field → List Descriptor
 accessOf file access entry =
     cond (is "all" (valueAt access entry)) (descriptorOf file access [] ∷ []) (map (descriptorOf file access) (itemsOf access entry))
 
+-- an entry's fields, among those of the file
 unfoldable pub entryOf : List Field → List Field → Entry
 entryOf file entry =
     record {
@@ -95,6 +98,7 @@ unfoldable pub memberDomains : ℕ → List Field → List ℕ
 memberDomains d [] = []
 memberDomains d (f ∷ fs) = replicate (length (elements (f .value))) d ++ memberDomains (d + 1) fs
 
+-- the policy of an accepted file
 unfoldable pub policyOf : List Field → Policy
 policyOf file =
     record {

@@ -36,6 +36,7 @@ use Rattle.paper.specs.Lookup.{Stretch, nameIn}
 abbrev pub textBytes : ℕ
 textBytes = 65536
 
+-- a page in order is held to the rules
 abbrev pub pageRuled : Page → Page
 pageRuled (fields fs) = ruled fs
 pageRuled (fault number line) = fault number line
@@ -46,6 +47,7 @@ fileOf t = cond (ltb textBytes (length t)) (fault 2 0) (unlessLine 3 (badByteLin
 
 -- ---- the reader: a text, and a table
 
+-- the reader accepts fields, and refuses with number and line
 abbrev pub reading : Page → Reading
 reading (fields fs) = Accepted
 reading (fault number line) = Unread number line
@@ -69,13 +71,16 @@ readLeaves t table = cond (eqb (readingNumber (readAnswer t table)) 1) table (wo
 unfoldable pub fillingOf : ℕ → ℕ → Filling
 fillingOf room size = cond (ltb textBytes size) (Unfilled 31 0) (cond (ltb room size) (Unfilled 30 0) (Written size))
 
+-- "The filler gives 2 to 11 as the reader does"
 abbrev pub filling : ℕ → Page → Filling
 filling room (fields fs) = fillingOf room (length (filledText fs))
 filling room (fault number line) = Unfilled number line
 
+-- the filler's whole answer
 unfoldable pub fillAnswer : List ℕ → List ℕ → Filling
 fillAnswer t out = filling (length out) (fileOf t)
 
+-- the filled text of an accepted file
 abbrev pub textFilled : Page → List ℕ
 textFilled (fields fs) = filledText fs
 textFilled (fault number line) = []
@@ -113,14 +118,17 @@ judgeAnswer table operation target m allocation =
 unfoldable pub reportRefusal : List ℕ → List ℕ → ℕ
 reportRefusal table witness = cond (wellFormed table) (cond (ltb (length witness) 32) 40 0) 20
 
+-- what the report says, unless it is refused: "nothing changed (20 to 40)"
 abbrev pub ReportedUnless : ℕ → Policy → List ℕ → List ℕ → Report → Type 0
 ReportedUnless zero p old new r = Says p old new r
 ReportedUnless (suc number) p old new r = (r ≡ Unreported (suc number)) × (new ≡ old)
 
+-- the report's whole answer and what it leaves in the witness
 unfoldable pub Reported : List ℕ → List ℕ → List ℕ → Report → Type 0
 Reported table old new r = ReportedUnless (reportRefusal table old) (policyIn table) old new r
 
 -- ---- name lookup: a text, a map, a domain number. It changes nothing
 
+-- the stretch that name lookup answers with
 unfoldable pub lookupAnswer : List ℕ → Map → ℕ → Stretch
 lookupAnswer t map d = nameIn t map d (fileOf t)

@@ -16,6 +16,7 @@ use Rattle.paper.specs.Entries.{isAt, isAtOne, callContexts, valueAt, fi
 unfoldable pub earlier : ℕ → ℕ → ℕ
 earlier a b = cond (eqb a 0) b (cond (eqb b 0 || ltb a b) a b)
 
+-- the smallest of several lines
 unfoldable pub earliest : List ℕ → ℕ
 earliest [] = 0
 earliest (a ∷ lines) = earlier a (earliest lines)
@@ -32,9 +33,11 @@ unfoldable pub passing : {A : Type 0} → (A → ℕ) → (A → ℕ) → ℕ �
 passing line weight limit k [] = 0
 passing line weight limit k (x ∷ xs) = cond (ltb limit (k + weight x)) (line x) (passing line weight limit (k + weight x) xs)
 
+-- one for each field of a place
 unfoldable pub oneAt : ℕ → Field → ℕ
 oneAt place f = cond (isAt place f) 1 0
 
+-- one for each element of a list at a place
 unfoldable pub membersAt : ℕ → Field → ℕ
 membersAt place f = cond (isAt place f) (length (elements (f .value))) 0
 
@@ -42,6 +45,7 @@ membersAt place f = cond (isAt place f) (length (elements (f .value))) 0
 unfoldable pub descriptorsOf : ℕ → List Field → ℕ
 descriptorsOf access entry = cond (is "all" (valueAt access entry)) 1 (length (itemsOf access entry))
 
+-- the access descriptors of an entry
 unfoldable pub descriptorsIn : List Field → ℕ
 descriptorsIn entry = descriptorsOf canRead entry + descriptorsOf canWrite entry
 
@@ -74,21 +78,27 @@ unfoldable pub repeated : (Field → List (List ℕ)) → List (List ℕ) → Li
 repeated named seen [] = 0
 repeated named seen (f ∷ fs) = cond (repeats seen (named f)) (f .line) (repeated named (named f ++ seen) fs)
 
+-- "domain name (over both maps)"
 unfoldable pub domainNamed : Field → List (List ℕ)
 domainNamed f = cond (isAtOne (objectName ∷ subjectName ∷ []) f) (f .value ∷ []) []
 
+-- "identifier of one map"
 unfoldable pub membersNamed : ℕ → Field → List (List ℕ)
 membersNamed place f = cond (isAt place f) (elements (f .value)) []
 
+-- the lists that name subject domains
 unfoldable pub subjectLists : List ℕ
 subjectLists = canCall ∷ canReturn ∷ []
 
+-- the lists that name object domains
 unfoldable pub objectLists : List ℕ
 objectLists = objectsIn canRead ∷ objectsIn canWrite ∷ []
 
+-- "name in one list twice"
 unfoldable pub repeatsInList : Field → Bool
 repeatsInList f = isAtOne (subjectLists ++ objectLists) f && repeats [] (elements (f .value))
 
+-- 7 over the whole file
 unfoldable pub namedTwice : List Field → ℕ
 namedTwice fs =
     earliest
@@ -108,6 +118,7 @@ domainsAt place file = map (λ f. f .value) (fieldsAt place file)
 unfoldable pub identifiersAt : ℕ → List Field → List (List ℕ)
 identifiersAt place file = flatMap (λ f. elements (f .value)) (fieldsAt place file)
 
+-- all of the names are known
 unfoldable pub allKnown : List (List ℕ) → List (List ℕ) → Bool
 allKnown known names = allOf (λ name. among name known) names
 
@@ -119,6 +130,7 @@ namesUnknown file f =
     (cond (isAtOne objectLists f) (not (allKnown (domainsAt objectName file) (elements (f .value))))
     (isAtOne callContexts f && not (allKnown (bytes "all" ∷ identifiersAt subjectMembers file) (elements (f .value))))))
 
+-- 8 over the whole file
 unfoldable pub unknownName : List Field → ℕ
 unknownName fs = firstWith (namesUnknown fs) fs
 
@@ -128,13 +140,16 @@ unknownName fs = firstWith (namesUnknown fs) fs
 unfoldable pub inObjectContexts : (ℕ → ℕ) → List ℕ
 inObjectContexts key = key (objectContextIn canRead) ∷ key (objectContextIn canWrite) ∷ []
 
+-- a variable at this key of an object context is not the one of the entry's same key
 unfoldable pub isUnboundKey : (ℕ → ℕ) → List Field → Field → Bool
 isUnboundKey key entry f =
     isAtOne (inObjectContexts key) f && isVariable (f .value) && not (same (f .value) (valueAt (key executionContext) entry))
 
+-- the two keys that can hold a variable
 unfoldable pub isUnbound : List Field → Field → Bool
 isUnbound entry f = isUnboundKey uidIn entry f || isUnboundKey gidIn entry f
 
+-- 10 over the whole file
 unfoldable pub unboundVariable : List Field → ℕ
 unboundVariable fs = earliest (map (λ entry. firstWith (isUnbound entry) entry) (entriesOf fs))
 
@@ -147,6 +162,7 @@ sortNumber variable = 1
 sortNumber root = 2
 sortNumber user = 3
 
+-- "uid and gid are of the same sort"
 unfoldable pub sameSort : List ℕ → List ℕ → Bool
 sameSort a b = eqb (sortNumber (sortOf a)) (sortNumber (sortOf b))
 
@@ -158,10 +174,12 @@ samePrincipal a b =
     && sameSort (valueAt (uidIn executionContext) a) (valueAt (uidIn executionContext) b)
     && sameSort (valueAt (gidIn executionContext) a) (valueAt (gidIn executionContext) b)
 
+-- the line of the first entry with the principal of one before it
 unfoldable pub twinAfter : List (List Field) → List (List Field) → ℕ
 twinAfter seen [] = 0
 twinAfter seen (e ∷ es) = cond (anyOf (samePrincipal e) seen) (lineOfEntry e) (twinAfter (e ∷ seen) es)
 
+-- 11 over the whole file
 unfoldable pub twinPrincipal : List Field → ℕ
 twinPrincipal fs = twinAfter [] (entriesOf fs)
 
@@ -172,6 +190,7 @@ unfoldable pub unlessLine : ℕ → ℕ → Page → Page
 unlessLine number zero page = page
 unlessLine number (suc line) page = fault number (suc line)
 
+-- the rules in their order, each over the whole file
 unfoldable pub ruled : List Field → Page
 ruled fs =
     unlessLine 6 (overLimit fs)

@@ -7,9 +7,11 @@ use lib.Dec.{eqb}
 use lib.ListN.{length, getD}
 use Rattle.paper.specs.Common.{bytes, within, isEmpty, allOf, anyOf, is, isOne, cut}
 
+-- "letters": A to Z, a to z
 unfoldable pub isLetter : ℕ → Bool
 isLetter b = within 65 90 b || within 97 122 b
 
+-- "digits": 0 to 9
 unfoldable pub isDigit : ℕ → Bool
 isDigit b = within 48 57 b
 
@@ -41,6 +43,7 @@ isGid s = is "all" s || isVariable s
 pub data Sort : Type 0 where
   anyone variable root user : Sort
 
+-- which of them a value says
 unfoldable pub sortOf : List ℕ → Sort
 sortOf s = cond (is "all" s) anyone (cond (is "root" s) root (cond (is "user" s) user variable))
 
@@ -60,6 +63,7 @@ isLineNumber s = within 1 6 (length s) && allOf isDigit s && not (eqb (getD s 0 
 pub data Need : Type 0 where
   needed absent free : Need
 
+-- a field is as the sort says
 unfoldable pub meets : Need → List ℕ → Bool
 meets needed s = not (isEmpty s)
 meets absent s = isEmpty s
@@ -72,6 +76,7 @@ pub record ObjectSort : Type 0 where
   pub line : Need
   pub name : Need
 
+-- a row of the table of sorts
 abbrev pub objectSort : String → Need → Need → Need → ObjectSort
 objectSort w p l n = record { word = w; path = p; line = l; name = n }
 
@@ -86,6 +91,7 @@ objectSorts =
     ∷ objectSort "OTHER" free free free
     ∷ []
 
+-- the four parts of an identifier are those of this sort
 unfoldable pub isOfSort : List (List ℕ) → ObjectSort → Bool
 isOfSort parts o =
     is (o .word) (getD parts 0 [])

@@ -6,12 +6,15 @@ use lib.Dec.{eqb}
 use lib.ListN.{length, getD}
 use Rattle.paper.specs.Common.{within}
 
+-- LF
 abbrev pub lineFeed : ℕ
 lineFeed = 10
 
+-- a space
 abbrev pub space : ℕ
 space = 32
 
+-- `#`
 abbrev pub hash : ℕ
 hash = 35
 

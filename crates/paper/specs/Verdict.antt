@@ -18,6 +18,7 @@ targetListed p (Write o) = isListed (p .objects) (o .0)
 targetListed p (Call f) = isListed (p .functions) (f .0)
 targetListed p (Return f) = isListed (p .functions) (f .0)
 
+-- the domain of the target, an object's or a function's
 unfoldable pub targetDomain : Policy → Access → ℕ
 targetDomain p (Read o) = getD (p .objects) (o .0) 0
 targetDomain p (Write o) = getD (p .objects) (o .0) 0
