@@ -1,14 +1,19 @@
 /* Dovetenon's proved functions, for C and for whatever calls C.
 
    `rt staticlib export` writes them to target/staticlib/libexport.a, for
-   x86-64. The archive has those that have landed (docs/LANDINGS.md); the others
-   are declared as they will be. "Document 01" is the paper that fixes the rules
-   of the format; docs/PROMISES.md says what is proved.
+   x86-64. docs/PROMISES.md says what is proved of each, docs/TABLE.md what the
+   words of a table are; include/example.c calls them.
 
    A pointer is never null and stands on a boundary of its type; its length
    counts words or bytes and may be 0. Nothing may change a stretch while it is
    lent, and a stretch that a function writes overlaps no other. The functions
-   keep nothing between calls. What is lent as const is never written. */
+   keep nothing between calls. What is lent as const is never written.
+
+   An answer is one number. Bits 0 to 15 hold a value, bits 16 to 31 the
+   answer's class, the bits above what else it tells; every bit not named here
+   is 0. Class 0 is no answer at all: no function ever gives it, so a zeroed
+   answer means neither allowed, nor accepted, nor clear. Ask for the class that
+   you want, and take every other one for a refusal. */
 #ifndef DOVETENON_H
 #define DOVETENON_H
 
@@ -20,36 +25,56 @@
 extern "C" {
 #endif
 
+/* How much may be lent, or must be. */
+enum {
+    DOVETENON_TABLE_WORDS = 16384,  /* of a table, at least */
+    DOVETENON_FRAMES = 64,          /* of a stack, at most */
+    DOVETENON_WITNESS_WORDS = 32,   /* of a witness, at least */
+    DOVETENON_TEXT_BYTES = 65536    /* of a text, at most */
+};
+
+/* The numbers of refusals: class 1 of every answer. */
+enum {
+    DOVETENON_TEXT_TOO_LONG = 2,      /* text over 65,536 bytes */
+    DOVETENON_BAD_BYTE = 3,           /* byte other than LF and 0x20 to 0x7E */
+    DOVETENON_LAYOUT = 4,             /* layout, key, missing key, no LF at the end, empty text */
+    DOVETENON_SCALAR = 5,             /* scalar malformed, list elements too */
+    DOVETENON_EMPTY_FIELD = 9,        /* empty field with no "none" */
+    DOVETENON_TABLE_ILL_FORMED = 20,  /* table not well formed */
+    DOVETENON_STACK = 21,             /* stack of 0 or over 64 frames */
+    DOVETENON_ALLOCATION_STACK = 22,  /* allocation stack over 64 frames */
+    DOVETENON_OPERATION = 23,         /* operation not 1 to 4 */
+    DOVETENON_WITNESS_TOO_SHORT = 40  /* witness under 32 words */
+};
+
+/* ---- The table */
+
 /* Whether the table is well formed: it has at least 16,384 words, the mark,
    counts within the limits (patterns 1 to 16), every number it holds below its
-   count, no two entries with one principal, object variables bound as refusal
-   10 asks, and zeros in unused words and bits up to 16,384. Words past 16,384
-   are not looked at. */
+   count, no two entries with one principal, object variables bound to the uid
+   and gid of their entry's principal, and zeros in unused words and bits up to
+   16,384. Words past 16,384 are not looked at. */
 bool dovetenon_well_formed(const uint16_t *table, size_t table_len);
+
+/* ---- The judge */
+
+/* The operations. */
+enum {
+    DOVETENON_READ = 1,
+    DOVETENON_WRITE = 2,
+    DOVETENON_CALL = 3,
+    DOVETENON_RETURN = 4
+};
 
 /* The verdict on one event under a table.
 
-   The event is one of the operations read 1, write 2, call 3, return 4, with a
-   target (the number of an object for read and write, of a function for call
-   and return), a stack of function numbers (base first, running function last),
-   uid and gid, and the allocation's stack, uid and gid. An empty allocation
-   stack means a static object; its uid and gid are then not looked at. For call
-   and return no allocation data is looked at, beyond refusal 22. A number not
-   below its count means unlisted.
-
-   The answer is class * 65536 + value:
-
-     class  value
-     0      0      allowed inside one domain (call, return)
-     1      e      allowed by entry e, the lowest matching entry that grants
-     2      1      violation: the stack's top is unlisted
-            2      violation: the target is unlisted
-            3      violation: no entry matches
-            4      violation: none that match grants it
-     3      20     refused: table not well formed
-            21     refused: stack of 0 or over 64 frames
-            22     refused: allocation stack over 64 frames
-            23     refused: operation not 1 to 4
+   The event is one of the operations, with a target (the number of an object
+   for read and write, of a function for call and return), a stack of function
+   numbers (base first, running function last), uid and gid, and the
+   allocation's stack, uid and gid. An empty allocation stack means a static
+   object; its uid and gid are then not looked at. For call and return no
+   allocation data is looked at, beyond refusal 22. A number not below its count
+   means unlisted.
 
    Refusals come first, 20 to 23 in that order. Then, in this order: violation
    1, violation 2, allowed inside one domain, allowed by an entry, violation 3,
@@ -71,34 +96,128 @@ uint32_t dovetenon_judge_known(const uint16_t *table, size_t table_len,
                                const uint16_t *allocation, size_t allocation_len,
                                uint32_t allocation_uid, uint32_t allocation_gid);
 
-/* The overlap report: the first pair of entries of a table that claim one
-   moment, the lower entry least, then the higher least.
+/* The classes of a verdict, and what its value is. */
+enum {
+    DOVETENON_VERDICT_REFUSED = 1,    /* the number of the refusal, 20 to 23 */
+    DOVETENON_VERDICT_VIOLATION = 2,  /* the number of the violation, 1 to 4 */
+    DOVETENON_VERDICT_INSIDE = 3,     /* allowed inside one domain (call, return): 0 */
+    DOVETENON_VERDICT_GRANTED = 4     /* allowed: the lowest matching entry that grants */
+};
 
-     bits 0 to 15   the refusal, 20 (table not well formed), then 40 (witness
-                    under 32 words); 0 if there is none
-     bits 16 to 23  the lower entry
-     bits 24 to 31  the higher entry
-     bits 32 to 39  the length of a stack that both entries match, at most 32;
-                    0 when the table is clear
-     bit 40         the uid at which both match: 1 if either entry says `user`,
-                    else 0; gid is 0
+/* The numbers of violations. */
+enum {
+    DOVETENON_TOP_UNLISTED = 1,      /* the stack's top is unlisted */
+    DOVETENON_TARGET_UNLISTED = 2,   /* the target is unlisted */
+    DOVETENON_NO_ENTRY_MATCHES = 3,  /* no entry matches */
+    DOVETENON_NONE_GRANTS = 4        /* none that match grants it */
+};
 
-   All bits are 0 when the table is clear, and all but the refusal's when it is
-   refused. On a clash the witness holds the stack from its base, then zeros to
-   word 32; when clear, its first 32 words are zero. Words past 32 never change,
-   and on refusal no word does. */
+static inline uint32_t dovetenon_verdict_class(uint32_t verdict)
+{
+    return verdict >> 16;
+}
+
+/* The only question that an enforcer must ask. */
+static inline bool dovetenon_is_allowed(uint32_t verdict)
+{
+    return dovetenon_verdict_class(verdict) == DOVETENON_VERDICT_INSIDE
+        || dovetenon_verdict_class(verdict) == DOVETENON_VERDICT_GRANTED;
+}
+
+/* Of a verdict that is refused or a violation. */
+static inline uint16_t dovetenon_verdict_number(uint32_t verdict)
+{
+    return (uint16_t)(verdict & 0xFFFF);
+}
+
+/* Of a verdict that is granted. */
+static inline uint16_t dovetenon_verdict_entry(uint32_t verdict)
+{
+    return (uint16_t)(verdict & 0xFFFF);
+}
+
+/* ---- The overlap report */
+
+/* The first pair of entries of a table that claim one moment, the lower entry
+   least, then the higher least. Refused with 20, then 40.
+
+   On a clash the witness holds the stack from its base, then zeros to word 32:
+   the shortest stack that both entries match and, among the shortest, the one
+   with the lowest function numbers from the base up. When clear, its first 32
+   words are zero. Words past 32 never change, and on refusal no word does. */
 uint64_t dovetenon_overlap(const uint16_t *table, size_t table_len,
                            uint16_t *witness, size_t witness_len);
 
-/* What the reader refuses a text with before it looks at counts and names: 2
-   (over 65,536 bytes), 3 (a byte other than LF and 0x20 to 0x7E), then the
-   first line with 4 (layout, key, missing key, no LF at the end, empty text), 9
-   (empty field with no "none") or 5 (scalar malformed), in that order on one
-   line.
+/* The classes of a report, and what else it tells. */
+enum {
+    DOVETENON_REPORT_REFUSED = 1,  /* the number of the refusal, 20 or 40 */
+    DOVETENON_REPORT_CLASH = 2,    /* the pair, the stack's depth, the uid */
+    DOVETENON_REPORT_CLEAR = 3
+};
 
-     bits 0 to 15   the refusal; 0 if the text has none of these
-     bits 32 to 63  the line, from 1; 0 for none and for 2 */
+static inline uint32_t dovetenon_report_class(uint64_t report)
+{
+    return (uint32_t)(report >> 16 & 0xFFFF);
+}
+
+/* Of a report that is refused. */
+static inline uint16_t dovetenon_report_number(uint64_t report)
+{
+    return (uint16_t)(report & 0xFFFF);
+}
+
+/* Of a clash: the pair of entries, .. */
+static inline uint8_t dovetenon_report_lower(uint64_t report)
+{
+    return (uint8_t)(report >> 32 & 0xFF);
+}
+
+static inline uint8_t dovetenon_report_higher(uint64_t report)
+{
+    return (uint8_t)(report >> 40 & 0xFF);
+}
+
+/* .. how many words of the witness are the stack, 1 to 32, .. */
+static inline uint8_t dovetenon_report_depth(uint64_t report)
+{
+    return (uint8_t)(report >> 48 & 0xFF);
+}
+
+/* .. and the uid at which both match: 1 if either entry says `user`, else 0.
+   The gid is 0. */
+static inline uint32_t dovetenon_report_uid(uint64_t report)
+{
+    return (uint32_t)(report >> 56 & 1);
+}
+
+/* ---- The page */
+
+/* What the reader refuses a text with before it looks at counts and names: 2,
+   then 3, then the first line with 4, 9 or 5, in that order on one line. */
 uint64_t dovetenon_page(const uint8_t *text, size_t text_len);
+
+/* The classes of a reading. */
+enum {
+    DOVETENON_READING_REFUSED = 1,  /* the number of the refusal, and its line */
+    DOVETENON_READING_ACCEPTED = 2  /* none of these refusals */
+};
+
+static inline uint32_t dovetenon_reading_class(uint64_t reading)
+{
+    return (uint32_t)(reading >> 16 & 0xFFFF);
+}
+
+/* Of a reading that is refused. */
+static inline uint16_t dovetenon_reading_number(uint64_t reading)
+{
+    return (uint16_t)(reading & 0xFFFF);
+}
+
+/* The line at fault, from 1; 0 for refusal 2, which has none. */
+static inline uint32_t dovetenon_reading_line(uint64_t reading)
+{
+    return (uint32_t)(reading >> 32);
+}
 
 #ifdef __cplusplus
 }

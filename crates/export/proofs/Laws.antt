@@ -1,62 +1,93 @@
 -- What the exported functions need, as plain laws.
-use mathlib.Core.Path.{_≡_, ap, _∙_}
-use Prim.Native.Nat.{ℕ, _+_, _*_, _%_}
-use mathlib.Core.List.{List}
+use mathlib.Core.Path.{_≡_, refl, ap, _∙_}
+use Prim.Native.Nat.{ℕ, _+_, _*_, _<_, _≤_}
+use native.Mathlib.Omega.{arith}
 use Rattle.paper.specs.declared.Verdict.{Verdict}
 use Rattle.paper.specs.declared.Verdict.the-variants.{Inside, Granted, Violation, Unjudged}
 use Rattle.paper.specs.declared.Report.{Report}
 use Rattle.paper.specs.declared.Report.the-variants.{Clear, Clash, Unreported}
 use Rattle.paper.specs.declared.Reading.{Reading}
 use Rattle.paper.specs.declared.Reading.the-variants.{Accepted, Unread}
-use Rattle.paper.specs.Promises.{Reported}
-use Rattle.export.specs.Packed.{verdictPacked, reportPacked, readingPacked, ReportedAs}
+use Rattle.paper.specs.Answers.{clashRest, packed, readingPacked, verdictPacked, reportPacked, ReportFits}
 
-module _ (v : Verdict) where
-  pub packs-inside : v ≡ Inside → 0 ≡ verdictPacked v
+-- ---- parts to a number
+
+module _ (class value : ℕ) where
+  pub half-packed : value + class * 65536 ≡ packed (record { class = class; value = value; rest = 0 })
+  unfolding packed
+  half-packed = omega arith
+
+  pub whole-packed :
+      (low rest : ℕ) → low ≡ packed (record { class = class; value = value; rest = 0 })
+      → low + rest * 4294967296 ≡ packed (record { class = class; value = value; rest = rest })
+  unfolding packed
+  whole-packed low rest h = omega arith
+
+pub clash-packed : (lower higher depth uid : ℕ) → lower + higher * 256 + depth * 65536 + uid * 16777216 ≡ clashRest lower higher depth uid
+unfolding clashRest
+clash-packed lower higher depth uid = refl
+
+-- ---- the number of each case
+
+module _ (v : Verdict) (r : ℕ) where
+  pub packs-unjudged : (number : ℕ) → v ≡ Unjudged number → r ≡ packed (record { class = 1; value = number; rest = 0 }) → r ≡ verdictPacked v
   unfolding verdictPacked
-  packs-inside e = rw e
+  packs-unjudged number e h = rw e h
 
-  pub packs-granted : (n : ℕ) → v ≡ Granted n → 65536 + n ≡ verdictPacked v
+  pub packs-violation : (number : ℕ) → v ≡ Violation number → r ≡ packed (record { class = 2; value = number; rest = 0 }) → r ≡ verdictPacked v
   unfolding verdictPacked
-  packs-granted n e = rw e
+  packs-violation number e h = rw e h
 
-  pub packs-violation : (n : ℕ) → v ≡ Violation n → 131072 + n ≡ verdictPacked v
+  pub packs-inside : v ≡ Inside → r ≡ packed (record { class = 3; value = 0; rest = 0 }) → r ≡ verdictPacked v
   unfolding verdictPacked
-  packs-violation n e = rw e
+  packs-inside e h = rw e h
 
-  pub packs-refusal : (n : ℕ) → v ≡ Unjudged n → 196608 + n ≡ verdictPacked v
+  pub packs-granted : (entry : ℕ) → v ≡ Granted entry → r ≡ packed (record { class = 4; value = entry; rest = 0 }) → r ≡ verdictPacked v
   unfolding verdictPacked
-  packs-refusal n e = rw e
+  packs-granted entry e h = rw e h
 
--- the number of an answer that is known
-pub packs-answer : (v answer : Verdict) (r : ℕ) → r ≡ verdictPacked v → v ≡ answer → r ≡ verdictPacked answer
-packs-answer v answer r p e = p ∙ ap verdictPacked e
+module _ (a : Reading) (r : ℕ) where
+  pub packs-unread : (number line : ℕ) → a ≡ Unread number line → r ≡ packed (record { class = 1; value = number; rest = line }) → r ≡ readingPacked a
+  unfolding readingPacked
+  packs-unread number line e h = rw e h
 
-module _ (r : Report) where
-  pub packs-clear : r ≡ Clear → 0 ≡ reportPacked r
+  pub packs-accepted : a ≡ Accepted → r ≡ packed (record { class = 2; value = 0; rest = 0 }) → r ≡ readingPacked a
+  unfolding readingPacked
+  packs-accepted e h = rw e h
+
+module _ (a : Report) (r : ℕ) where
+  pub packs-unreported : (number : ℕ) → a ≡ Unreported number → r ≡ packed (record { class = 1; value = number; rest = 0 }) → r ≡ reportPacked a
   unfolding reportPacked
-  packs-clear e = rw e
+  packs-unreported number e h = rw e h
 
   pub packs-clash :
-      (lower higher depth uid gid p : ℕ) → r ≡ Clash lower higher depth uid gid → p ≡ lower * 65536 + higher * 16777216 + depth * 4294967296 + uid % 2 * 1099511627776 → p ≡ reportPacked r
+      (lower higher depth uid gid rest : ℕ) → a ≡ Clash lower higher depth uid gid → rest ≡ clashRest lower higher depth uid
+      → r ≡ packed (record { class = 2; value = 0; rest = rest }) → r ≡ reportPacked a
   unfolding reportPacked
-  packs-clash lower higher depth uid gid p e h = rw e h
+  packs-clash lower higher depth uid gid rest e s h = rw (e, ← s) h
 
-  pub packs-unreported : (n : ℕ) → r ≡ Unreported n → n ≡ reportPacked r
+  pub packs-clear : a ≡ Clear → r ≡ packed (record { class = 3; value = 0; rest = 0 }) → r ≡ reportPacked a
   unfolding reportPacked
-  packs-unreported n e = rw e
+  packs-clear e h = rw e h
 
-pub reported-as : (table old new : List ℕ) (r : Report) (p : ℕ) → Reported table old new r → p ≡ reportPacked r → ReportedAs table old new p
-reported-as table old new r p h e = record { report = r; reported = h; packs = e }
+-- ---- the numbers of a clash have room
+module _ (a : Report) (lower higher depth uid gid : ℕ) (e : a ≡ Clash lower higher depth uid gid) (f : ReportFits a) where
+  pub lower-fits : lower < 256
+  lower-fits = (rw e at f) .0
 
-module _ (r : Reading) where
-  pub packs-accepted : r ≡ Accepted → 0 ≡ readingPacked r
-  unfolding readingPacked
-  packs-accepted e = rw e
+  pub higher-fits : higher < 256
+  higher-fits = (rw e at f) .1
 
-  pub packs-unread : (n l : ℕ) → r ≡ Unread n l → n + l * 4294967296 ≡ readingPacked r
-  unfolding readingPacked
-  packs-unread n l e = rw e
+  pub depth-fits : depth < 256
+  depth-fits = (rw e at f) .2
 
-pub packs-reading : (r answer : Reading) (p : ℕ) → p ≡ readingPacked r → r ≡ answer → p ≡ readingPacked answer
-packs-reading r answer p e h = e ∙ ap readingPacked h
+  pub uid-fits : uid ≤ 1
+  uid-fits = (rw e at f) .3
+
+-- ---- the number of an answer that is known
+
+pub packs-verdict : (v answer : Verdict) (r : ℕ) → r ≡ verdictPacked v → v ≡ answer → r ≡ verdictPacked answer
+packs-verdict v answer r p e = p ∙ ap verdictPacked e
+
+pub packs-reading : (a answer : Reading) (r : ℕ) → r ≡ readingPacked a → a ≡ answer → r ≡ readingPacked answer
+packs-reading a answer r p e = p ∙ ap readingPacked e

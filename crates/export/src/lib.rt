@@ -1,14 +1,43 @@
-// The proved functions for C and Rust: include/dovetenon.h says what each answers.
+// The proved functions for C and Rust: include/dovetenon.h says what each answers, and crates/paper/specs/Answers.antt how
+// an answer is one number.
+pub mod class;
+
 use judge::Ids;
 use paper::Reading;
 use paper::Report;
 use paper::Verdict;
 ghost use mathlib.Core.Path.{_≡_};
-ghost use Prim.Native.Nat.{_+_, _*_, _%_};
+ghost use Prim.Native.Nat.{_≤_, _<_};
 ghost use Rattle.paper.specs.Table.{wellFormed, policyIn};
-ghost use Rattle.paper.specs.Promises.{judgeEvent, judgeAnswer, reading};
-ghost use Rattle.page.specs.Walk.{textPage};
-ghost use Rattle.export.specs.Packed.{verdictPacked, reportPacked, readingPacked, ReportedAs};
+ghost use Rattle.paper.specs.Promises.{textPage, readingOf, judgeEvent, judgeAnswer};
+ghost use Rattle.paper.specs.Answers.{clashRest, packed, readingPacked, verdictPacked, reportPacked, ReportFits};
+ghost use Rattle.export.specs.Told.{ReportedAs};
+
+// Where the class of an answer begins, and the rest: bits 16 and 32.
+const CLASS: u32 = 65536;
+
+const REST: u64 = 4294967296;
+
+// Where the higher entry of a clash begins, the depth and the uid: bits 8, 16 and 24 of the rest.
+const HIGHER: u32 = 256;
+
+const DEPTH: u32 = 65536;
+
+const UID: u32 = 16777216;
+
+// The low half of an answer.
+fn half(class: u16, value: u16) -> u32
+    ensures { λ r. ⌜ r ≡ packed (record { class = class; value = value; rest = 0 }) ⌝ }
+{
+    (value as u32) + (class as u32) * CLASS
+}
+
+// An answer: its class, a value, and whatever else it tells.
+fn whole(class: u16, value: u16, rest: u32) -> u64
+    ensures { λ r. ⌜ r ≡ packed (record { class = class; value = value; rest = rest }) ⌝ }
+{
+    (half(class, value) as u64) + (rest as u64) * REST
+}
 
 #[no_mangle]
 pub extern "C" fn dovetenon_well_formed(table: &[u16]) -> bool
@@ -17,14 +46,14 @@ pub extern "C" fn dovetenon_well_formed(table: &[u16]) -> bool
     table::well_formed(table)
 }
 
-fn packed(verdict: Verdict) -> u32
+fn packed_verdict(verdict: Verdict) -> u32
     ensures { λ r. ⌜ r ≡ verdictPacked verdict ⌝ }
 {
     match verdict {
-        Verdict::Inside => 0,
-        Verdict::Granted { entry } => 65536 + (entry as u32),
-        Verdict::Violation { number } => 131072 + (number as u32),
-        Verdict::Unjudged { number } => 196608 + (number as u32),
+        Verdict::Unjudged { number } => half(class::REFUSED, number),
+        Verdict::Violation { number } => half(class::VIOLATION, number),
+        Verdict::Inside => half(class::INSIDE, 0),
+        Verdict::Granted { entry } => half(class::GRANTED, entry),
     }
 }
 
@@ -40,14 +69,16 @@ pub extern "C" fn dovetenon_judge(
     allocation_uid: u32,
     allocation_gid: u32,
 ) -> u32
-    ensures { λ r. ⌜ r ≡ verdictPacked (judgeAnswer (now (table .entry)) operation target (record { stack = now (stack .entry); uid = uid; gid = gid }) (record { stack = now (allocation .entry); uid = «allocation_uid»; gid = «allocation_gid» })) ⌝ }
+    ensures { λ r. ⌜ r ≡ verdictPacked (judgeAnswer (now (table .entry)) operation target
+        (record { stack = now (stack .entry); uid = uid; gid = gid })
+        (record { stack = now (allocation .entry); uid = «allocation_uid»; gid = «allocation_gid» })) ⌝ }
 {
     let ids = Ids { uid: uid, gid: gid };
     let allocated = Ids {
         uid: allocation_uid,
         gid: allocation_gid,
     };
-    packed(judge::judge(table, operation, target, stack, ids, allocation, allocated))
+    packed_verdict(judge::judge(table, operation, target, stack, ids, allocation, allocated))
 }
 
 #[no_mangle]
@@ -62,37 +93,41 @@ pub extern "C" fn dovetenon_judge_known(
     allocation_uid: u32,
     allocation_gid: u32,
 ) -> u32
-    ensures { λ r. ⌜ r ≡ verdictPacked (judgeEvent (policyIn (now (table .entry))) operation target (record { stack = now (stack .entry); uid = uid; gid = gid }) (record { stack = now (allocation .entry); uid = «allocation_uid»; gid = «allocation_gid» })) ⌝ }
+    ensures { λ r. ⌜ r ≡ verdictPacked (judgeEvent (policyIn (now (table .entry))) operation target
+        (record { stack = now (stack .entry); uid = uid; gid = gid })
+        (record { stack = now (allocation .entry); uid = «allocation_uid»; gid = «allocation_gid» })) ⌝ }
 {
     let ids = Ids { uid: uid, gid: gid };
     let allocated = Ids {
         uid: allocation_uid,
         gid: allocation_gid,
     };
-    packed(judge::judge_known(table, operation, target, stack, ids, allocation, allocated))
+    packed_verdict(judge::judge_known(table, operation, target, stack, ids, allocation, allocated))
+}
+
+// What a clash tells besides.
+fn clash_rest(lower: u16, higher: u16, depth: u16, uid: u32) -> u32
+    requires { ⌜ (lower < 256) × (higher < 256) × (depth < 256) × (uid ≤ 1) ⌝ }
+    ensures { λ r. ⌜ r ≡ clashRest lower higher depth uid ⌝ }
+{
+    (lower as u32) + (higher as u32) * HIGHER + (depth as u32) * DEPTH + uid * UID
 }
 
 fn packed_report(report: Report) -> u64
+    requires { ⌜ ReportFits report ⌝ }
     ensures { λ r. ⌜ r ≡ reportPacked report ⌝ }
 {
     match report {
-        Report::Clear => 0,
+        Report::Unreported { number } => whole(class::REFUSED, number, 0),
         Report::Clash {
             lower,
             higher,
             depth,
             uid,
             gid: _,
-        } => packed_clash(lower, higher, depth, uid),
-        Report::Unreported { number } => number as u64,
+        } => whole(class::CLASH, 0, clash_rest(lower, higher, depth, uid)),
+        Report::Clear => whole(class::CLEAR, 0, 0),
     }
-}
-
-fn packed_clash(lower: u16, higher: u16, depth: u16, uid: u32) -> u64
-    ensures { λ r. ⌜ r ≡ lower * 65536 + higher * 16777216 + depth * 4294967296 + uid % 2 * 1099511627776 ⌝ }
-{
-    let pair = (lower as u64) * 65536 + (higher as u64) * 16777216;
-    pair + (depth as u64) * 4294967296 + ((uid % 2) as u64) * 1099511627776
 }
 
 #[no_mangle]
@@ -106,14 +141,14 @@ fn packed_reading(reading: Reading) -> u64
     ensures { λ r. ⌜ r ≡ readingPacked reading ⌝ }
 {
     match reading {
-        Reading::Accepted => 0,
-        Reading::Unread { number, line } => (number as u64) + (line as u64) * 4294967296,
+        Reading::Unread { number, line } => whole(class::REFUSED, number, line),
+        Reading::Accepted => whole(class::ACCEPTED, 0, 0),
     }
 }
 
 #[no_mangle]
 pub extern "C" fn dovetenon_page(text: &[u8]) -> u64
-    ensures { λ r. ⌜ r ≡ readingPacked (reading (textPage (now (text .entry)))) ⌝ }
+    ensures { λ r. ⌜ r ≡ readingPacked (readingOf (textPage (now (text .entry)))) ⌝ }
 {
-    packed_reading(page::text_reading(text))
+    packed_reading(text_page::text_reading(text))
 }

@@ -1,1 +1,3 @@
 pub mod Moments
+pub mod Passes
+pub mod Demand

@@ -1,24 +1,27 @@
--- A moment as the code has it, a stack and the numbers beside it; and a target as a number among the objects or the functions.
-use Prim.Native.Nat.{ℕ}
-use mathlib.Core.List.{List}
-use Rattle.paper.specs.declared.Access.{Access}
-use Rattle.paper.specs.declared.Access.the-variants.{Read, Write, Call, Return}
-use Rattle.paper.specs.Policy.{Policy}
-use Rattle.paper.specs.Match.{Moment}
+-- A moment as the code has it: a stack, and the numbers beside it.
+use Prim.Native.Nat.{ℕ, _<_}
+use mathlib.Core.Path.{_≡_}
+use mathlib.Core.List.{List, []}
+use lib.ListN.{length, getD}
+use Rattle.paper.specs.Table.{functionDomainsIn, policyIn}
+use Rattle.paper.specs.Match.{Moment, top}
+use Rattle.paper.specs.Verdict.{targetDomain}
 use Rattle.judge.specs.declared.Ids.{Ids}
+use Rattle.judge.specs.declared.Event.{Event}
 
 abbrev pub momentOf : List ℕ → Ids → Moment
 momentOf stack ids = record { stack = stack; uid = ids .uid; gid = ids .gid }
 
--- the domains of what an access can be to
-unfoldable pub targetsOf : Policy → Access → List ℕ
-targetsOf p (Read o) = p .objects
-targetsOf p (Write o) = p .objects
-targetsOf p (Call f) = p .functions
-targetsOf p (Return f) = p .functions
+-- the moment that binds an entry's variables, of which a descriptor looks at uid and gid alone
+abbrev pub binding : Event → Moment
+binding event = momentOf [] (event .ids)
 
-unfoldable pub targetNumber : Access → ℕ
-targetNumber (Read o) = o .0
-targetNumber (Write o) = o .0
-targetNumber (Call f) = f .0
-targetNumber (Return f) = f .0
+abbrev pub allocationOf : List ℕ → Event → Moment
+allocationOf allocation event = momentOf allocation (event .allocated)
+
+-- the running function is listed, and the event's domains are those of the running function and of the target
+pub record Placed (ws stack : List ℕ) (event : Event) : Type 0 where
+  pub some : length stack ≡ 0 → ⊥
+  pub listed : top stack < length (functionDomainsIn ws)
+  pub subject : event .subject ≡ getD (functionDomainsIn ws) (top stack) 0
+  pub target : event .target ≡ targetDomain (policyIn ws) (event .access)

@@ -4,10 +4,9 @@ use mathlib.Core.Bool.{Bool, true, false, not}
 use mathlib.Core.List.{List}
 use Prim.Native.Nat.{ℕ, suc, _+_, _<_, _≤_}
 use native.Mathlib.Omega.{arith}
-use lib.Dec.{eqb}
 use lib.ListN.{length, getD, drop, drop-of-length-le}
 use borrow.Author.Tests.{eq-eqb, ne-eqb, not-true, not-false}
-use Rattle.paper.specs.Common.{allOf, anyOf, startsWith}
+use Rattle.paper.specs.Common.{allOf, isFrontOf}
 use Rattle.laws.specs.Pieces.{before}
 use Rattle.laws.proofs.Places.{drop-more}
 
@@ -26,39 +25,24 @@ module _ (f : ℕ → Bool) (s : List ℕ) (i : ℕ) (inv : allOf f (drop i s) �
   unfolding allOf
   all-ends h = rw (← inv, drop-of-length-le s h)
 
--- ---- some byte is this one
-
-module _ (b : ℕ) (s : List ℕ) (i : ℕ) (inv : anyOf (eqb b) (drop i s) ≡ anyOf (eqb b) s) where
-  pub any-again : i < length s → (b ≡ getD s i 0 → ⊥) → anyOf (eqb b) (drop (i + 1) s) ≡ anyOf (eqb b) s
-  unfolding anyOf
-  any-again h e = rw (← inv, drop-more s i h, ne-eqb b _ e)
-
-  pub any-found : i < length s → b ≡ getD s i 0 → true ≡ anyOf (eqb b) s
-  unfolding anyOf
-  any-found h e = rw (← inv, drop-more s i h, eq-eqb b _ e)
-
-  pub any-ends : length s ≤ i → false ≡ anyOf (eqb b) s
-  unfolding anyOf
-  any-ends h = rw (← inv, drop-of-length-le s h)
-
 -- ---- one stretch begins with another
 
-module _ (k s : List ℕ) (i : ℕ) (inv : startsWith (drop i k) (drop i s) ≡ startsWith k s) where
-  pub starts-again : i < length k → i < length s → getD k i 0 ≡ getD s i 0 → startsWith (drop (i + 1) k) (drop (i + 1) s) ≡ startsWith k s
-  unfolding startsWith
-  starts-again h l e = rw (← inv, drop-more k i h, drop-more s i l, eq-eqb _ _ e)
+module _ (k s : List ℕ) (i : ℕ) (inv : isFrontOf (drop i k) (drop i s) ≡ isFrontOf k s) where
+  pub front-again : i < length k → i < length s → getD k i 0 ≡ getD s i 0 → isFrontOf (drop (i + 1) k) (drop (i + 1) s) ≡ isFrontOf k s
+  unfolding isFrontOf
+  front-again h l e = rw (← inv, drop-more k i h, drop-more s i l, eq-eqb _ _ e)
 
-  pub starts-differs : i < length k → i < length s → (getD k i 0 ≡ getD s i 0 → ⊥) → false ≡ startsWith k s
-  unfolding startsWith
-  starts-differs h l e = rw (← inv, drop-more k i h, drop-more s i l, ne-eqb _ _ e)
+  pub front-differs : i < length k → i < length s → (getD k i 0 ≡ getD s i 0 → ⊥) → false ≡ isFrontOf k s
+  unfolding isFrontOf
+  front-differs h l e = rw (← inv, drop-more k i h, drop-more s i l, ne-eqb _ _ e)
 
-  pub starts-short : i < length k → length s ≤ i → false ≡ startsWith k s
-  unfolding startsWith
-  starts-short h l = rw (← inv, drop-more k i h, drop-of-length-le s l)
+  pub front-short : i < length k → length s ≤ i → false ≡ isFrontOf k s
+  unfolding isFrontOf
+  front-short h l = rw (← inv, drop-more k i h, drop-of-length-le s l)
 
-  pub starts-ends : length k ≤ i → true ≡ startsWith k s
-  unfolding startsWith
-  starts-ends h = rw (← inv, drop-of-length-le k h)
+  pub front-ends : length k ≤ i → true ≡ isFrontOf k s
+  unfolding isFrontOf
+  front-ends h = rw (← inv, drop-of-length-le k h)
 
 -- ---- the way to a separator
 

@@ -1,11 +1,12 @@
 -- Places in a list of numbers.
-use mathlib.Core.Path.{_≡_}
+use mathlib.Core.Path.{_≡_, refl, sym}
 use mathlib.Core.List.{List, [], _∷_}
 use Prim.Native.Nat.{ℕ, zero, suc, _+_, _-_, _<_}
 use native.Mathlib.Nat.{sub-zero, suc-sub-suc, zero-sub}
+use native.Mathlib.Omega.{arith}
 use native.Mathlib.Numerals.{add-one}
-use lib.ListN.{length, drop, getD, set, replicate}
-use lib.Seq.{drop-cons}
+use lib.ListN.{length, take, drop, getD, set, replicate}
+use lib.Seq.{drop-cons, drop-nil, take-nil}
 
 pub drop-more : (l : List ℕ) (i : ℕ) → i < length l → drop i l ≡ getD l i 0 ∷ drop (i + 1) l
 drop-more l i h = rw (add-one, drop-cons l i 0)
@@ -23,3 +24,10 @@ pub drop-zeros : (m n : ℕ) → drop {A = ℕ} n (replicate m 0) ≡ replicate 
 drop-zeros m zero = rw sub-zero
 drop-zeros zero (suc n) = rw zero-sub
 drop-zeros (suc m) (suc n) = rw suc-sub-suc (drop-zeros m n)
+
+-- a part of a part
+pub drop-take : (k n : ℕ) (xs : List ℕ) → drop k (take n xs) ≡ take (n - k) (drop k xs)
+drop-take zero n xs = let q : n - 0 ≡ n = omega arith in rw q refl
+drop-take (suc k) zero xs = let q : 0 - suc k ≡ 0 = omega arith in rw q (drop-nil (suc k))
+drop-take (suc k) (suc n) [] = sym (take-nil (suc n - suc k))
+drop-take (suc k) (suc n) (x ∷ xs) = let q : suc n - suc k ≡ n - k = omega arith in rw q (drop-take k n xs)

@@ -1,39 +1,39 @@
 -- Any two answers that meet the promise agree in everything but the stack; and in the stack too, where no other comes before it.
-use Prim.Native.Nat.{ℕ, zero, suc, _-_, _≤_}
+use Prim.Native.Nat.{ℕ, zero, suc, _≤_}
 use native.Mathlib.Omega.{arith}
 use native.Mathlib.Nat.{eq-or-lt-of-le}
-use mathlib.Core.Logic.{_⊎_, inl, inr, ⊎-elim}
+use mathlib.Core.Logic.{inl, inr, ⊎-elim}
 use mathlib.Core.Path.{_≡_, refl, sym, ap, _∙_}
 use mathlib.Core.List.{List}
 use lib.ListN.{length, take, drop, length-append, length-take}
 use lib.Seq.{drop-at, length-take-le}
 use Rattle.paper.specs.declared.Report.{Report}
 use Rattle.paper.specs.declared.Report.the-variants.{Clear, Clash, Unreported}
+use Rattle.paper.specs.Limits.{witnessWords}
 use Rattle.paper.specs.Policy.{Policy}
 use Rattle.paper.specs.Table.{padded, policyIn}
 use Rattle.paper.specs.Overlap.{PairBefore, FirstClash, Says, witnessLeft}
 use Rattle.paper.specs.Promises.{reportRefusal, ReportedUnless, Reported}
 use Rattle.laws.proofs.Tests.{le-or-lt}
 use Rattle.laws.proofs.Stretches.{length-padded}
-use Rattle.meeting.proofs.Order.{after-anti}
+use Rattle.overlap_meeting.proofs.Order.{after-anti}
 use Rattle.overlap.specs.Told.{Least}
 use Rattle.overlap.specs.Agree.{AgreeButStack}
 
 module _ (p : Policy) (old : List ℕ) where
   module _ (new : List ℕ) (i j depth uid gid : ℕ) (c : FirstClash p old new i j depth uid gid) where
-    few : length (take depth new) ≤ 32
-    few = let s = c .short in rw length-take (omega arith)
+    few-frames : length (take depth new) ≤ witnessWords
+    few-frames = let s = c .short in rw length-take (omega arith)
 
-    -- the words past 32
-    pub past : drop 32 new ≡ drop 32 old
+    past-kept : drop witnessWords new ≡ drop witnessWords old
     unfolding witnessLeft
-    past = ap (drop 32) (c .left) ∙ drop-at (padded 32 (take depth new)) (drop 32 old) 32 (length-padded 32 (take depth new) few)
+    past-kept = ap (drop witnessWords) (c .left) ∙ drop-at (padded witnessWords (take depth new)) (drop witnessWords old) witnessWords (length-padded witnessWords (take depth new) few-frames)
 
     counted : length (take depth new) ≡ depth
     unfolding witnessLeft
     counted =
-        let l = ap length (c .left) ∙ length-append (padded 32 (take depth new)) (drop 32 old) in
-        let k = length-padded 32 (take depth new) few in
+        let l = ap length (c .left) ∙ length-append (padded witnessWords (take depth new)) (drop witnessWords old) in
+        let k = length-padded witnessWords (take depth new) few-frames in
         let s = c .short in
         length-take-le depth new (omega arith)
 
@@ -59,8 +59,8 @@ module _ (p : Policy) (old : List ℕ) where
     same-uid : uid ≡ uid′
     same-uid = c .uidIs ∙ (rw (same-lower, same-higher) (sym (c′ .uidIs)))
 
-    pub clashes-agree : (i ≡ i′) × (j ≡ j′) × (uid ≡ uid′) × (gid ≡ gid′) × (drop 32 new ≡ drop 32 new′)
-    clashes-agree = (same-lower, same-higher, same-uid, c .gidIs ∙ sym (c′ .gidIs), past new i j depth uid gid c ∙ sym (past new′ i′ j′ depth′ uid′ gid′ c′))
+    clashes-agree : (i ≡ i′) × (j ≡ j′) × (uid ≡ uid′) × (gid ≡ gid′) × (drop witnessWords new ≡ drop witnessWords new′)
+    clashes-agree = (same-lower, same-higher, same-uid, c .gidIs ∙ sym (c′ .gidIs), past-kept new i j depth uid gid c ∙ sym (past-kept new′ i′ j′ depth′ uid′ gid′ c′))
 
     module _ (least : Least p new (Clash i j depth uid gid)) (least′ : Least p new′ (Clash i′ j′ depth′ uid′ gid′)) where
       same-stack : take depth new ≡ take depth′ new′

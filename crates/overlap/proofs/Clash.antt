@@ -1,22 +1,22 @@
 -- Two entries match a moment exactly where `clashStack` finds a stack, and none comes before it.
-use Prim.Native.Nat.{ℕ, suc, _+_, _-_, _≤_}
+use Prim.Native.Nat.{ℕ, suc, _+_, _≤_}
 use native.Mathlib.Omega.{arith}
 use native.Mathlib.Numerals.{sub-one}
 use mathlib.Core.Path.{_≡_, refl, sym, ap, _∙_}
-use mathlib.Core.Bool.{Bool, true, false, cond, _||_, false≢true}
+use mathlib.Core.Bool.{Bool, true, false, cond, not, _||_, false≢true}
 use mathlib.Core.List.{List, [], _∷_}
 use lib.Dec.{eqb, eqb·suc-zero}
 use lib.ListN.{length, getD}
-use borrow.Author.Tests.{eqb-true, eq-eqb}
-use Rattle.paper.specs.Scalars.{Sort, anyone, variable, root, user}
+use borrow.Author.Tests.{eqb-true, eq-eqb, not-true}
+use Rattle.paper.specs.Scalars.{Sort, anyone, variable, root, user, sortNumber}
 use Rattle.paper.specs.Policy.{Entry, Policy}
 use Rattle.paper.specs.Match.{Moment, top, topLiesIn, sortFits, matches, entryMatches}
 use Rattle.paper.specs.Overlap.{isUser, witnessUid}
-use Rattle.meeting.specs.Best.{topPasses, Meet, inDomain, bestStack, NotAfter}
-use Rattle.meeting.proofs.Best.{Some}
-use Rattle.meeting.proofs.Order.{best-short, best-sound, best-least}
+use Rattle.overlap_meeting.specs.Best.{topPasses, Meet, inDomain, bestStack, NotAfter}
+use Rattle.overlap_meeting.proofs.Best.{Some}
+use Rattle.overlap_meeting.proofs.Order.{best-short, best-sound, best-least}
 use Rattle.laws.proofs.Tests.{both-true, both-left, both-right}
-use Rattle.overlap.specs.Clash.{isRoot, apart, clashStack}
+use Rattle.overlap.specs.Clash.{isRoot, apart, mayClash, clashStack}
 
 -- ---- the top frame
 top-next : (x y : ℕ) (s : List ℕ) → top (x ∷ y ∷ s) ≡ top (y ∷ s)
@@ -31,7 +31,7 @@ lies-top : (p : Policy) (d x : ℕ) (s : List ℕ) → topLiesIn p d (x ∷ s) �
 unfolding topLiesIn inDomain
 lies-top p d x s = rw (eqb·suc-zero (length s))
 
-pub top-lies : (p : Policy) (d : ℕ) (s : List ℕ) → topLiesIn p d s ≡ topPasses (inDomain (p .functions) d) s
+top-lies : (p : Policy) (d : ℕ) (s : List ℕ) → topLiesIn p d s ≡ topPasses (inDomain (p .functions) d) s
 unfolding topLiesIn topPasses
 top-lies p d [] = refl
 top-lies p d (x ∷ s) = lies-top p d x s ∙ sym (passes-top (inDomain (p .functions) d) x s)
@@ -46,7 +46,7 @@ one-domain p a b s h k =
 
 -- ---- uids
 fit-together : (s t : Sort) (id : ℕ) → sortFits s id ≡ true → sortFits t id ≡ true → apart s t ≡ false
-unfolding sortFits apart isUser isRoot
+unfolding sortFits apart isUser isRoot sortNumber
 fit-together anyone t id h k = refl
 fit-together variable t id h k = refl
 fit-together root anyone id h k = refl
@@ -63,14 +63,17 @@ abbrev uidFor : Sort → Sort → ℕ
 uidFor s t = cond (isUser s || isUser t) 1 0
 
 one-fits : (s t : Sort) → apart s t ≡ false → sortFits s (uidFor s t) ≡ true
-unfolding sortFits apart isUser
+unfolding sortFits apart isUser isRoot sortNumber
 one-fits anyone t h = refl
 one-fits variable t h = refl
-one-fits root t h = rw h
+one-fits root anyone h = refl
+one-fits root variable h = refl
+one-fits root root h = refl
+one-fits root user h = absurd (false≢true (sym h))
 one-fits user t h = refl
 
 other-fits : (s t : Sort) → apart s t ≡ false → sortFits t (uidFor s t) ≡ true
-unfolding sortFits apart isUser isRoot
+unfolding sortFits apart isUser isRoot sortNumber
 other-fits s anyone h = refl
 other-fits s variable h = refl
 other-fits anyone root h = refl
@@ -124,23 +127,22 @@ module _ (p : Policy) (a b : Entry) where
         )
 
     pub clash-sound : Some stack → Both stack
-    unfolding clashStack
-    clash-sound = same (eqb (a .subject) (b .subject)) refl
+    unfolding clashStack mayClash
+    clash-sound = go (mayClash a b) refl
       where
         best : List ℕ
         best = bestStack (p .functions) (a .subject) (a .context .pattern) (b .context .pattern)
 
-        fit : a .subject ≡ b .subject → (t : Bool) → apart (a .context .uid) (b .context .uid) ≡ t → Some (cond t [] best) → Both (cond t [] best)
-        fit e true u s = absurd s
-        fit e false u s = both-at best e u (best-sound (p .functions) (a .subject) (a .context .pattern) (b .context .pattern) s)
-
-        same : (t : Bool) → eqb (a .subject) (b .subject) ≡ t → Some (cond t (cond (apart (a .context .uid) (b .context .uid)) [] best) []) → Both (cond t (cond (apart (a .context .uid) (b .context .uid)) [] best) [])
-        same true e s = fit (eqb-true _ _ e) (apart (a .context .uid) (b .context .uid)) refl s
-        same false e s = absurd s
+        go : (t : Bool) → mayClash a b ≡ t → Some (cond t best []) → Both (cond t best [])
+        go true e s =
+            let same : eqb (a .subject) (b .subject) ≡ true = search both-left in
+            let fit : not (apart (a .context .uid) (b .context .uid)) ≡ true = search both-right in
+            both-at best (eqb-true _ _ same) (not-true _ fit) (best-sound (p .functions) (a .subject) (a .context .pattern) (b .context .pattern) s)
+        go false e s = absurd s
 
   -- ---- complete, and least
   pub clash-least : (m : Moment) → entryMatches p a m ≡ true → entryMatches p b m ≡ true → Some stack × NotAfter stack (m .stack)
-  unfolding clashStack
+  unfolding clashStack mayClash
   clash-least m h k =
       let f = matched p a m h in
       let g = matched p b m k in
@@ -154,9 +156,8 @@ module _ (p : Policy) (a b : Entry) where
   -- ---- short
   pub clash-short : length stack ≤ length (a .context .pattern) + length (b .context .pattern)
   unfolding clashStack
-  clash-short = go (eqb (a .subject) (b .subject)) (apart (a .context .uid) (b .context .uid))
+  clash-short = go (mayClash a b)
     where
-      go : (t u : Bool) → length (cond t (cond u [] (bestStack (p .functions) (a .subject) (a .context .pattern) (b .context .pattern))) []) ≤ length (a .context .pattern) + length (b .context .pattern)
-      go true true = omega arith
-      go true false = best-short (p .functions) (a .subject) (a .context .pattern) (b .context .pattern)
-      go false u = omega arith
+      go : (t : Bool) → length (cond t (bestStack (p .functions) (a .subject) (a .context .pattern) (b .context .pattern)) []) ≤ length (a .context .pattern) + length (b .context .pattern)
+      go true = best-short (p .functions) (a .subject) (a .context .pattern) (b .context .pattern)
+      go false = omega arith

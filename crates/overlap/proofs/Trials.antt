@@ -10,16 +10,17 @@ use Rattle.paper.specs.declared.Verdict.{Verdict}
 use Rattle.paper.specs.declared.Verdict.the-variants.{Inside, Granted, Violation, Unjudged}
 use Rattle.paper.specs.declared.Report.{Report}
 use Rattle.paper.specs.declared.Report.the-variants.{Clear, Clash}
+use Rattle.paper.specs.Limits.{witnessWords}
 use Rattle.paper.specs.Scalars.{Sort, anyone, root, user}
-use Rattle.paper.specs.Page.{Page, fields, fault}
+use Rattle.paper.specs.Page.{Outcome, fields, fault}
 use Rattle.paper.specs.Policy.{Element, all, fn, every, Entry, Policy, policyOf}
 use Rattle.paper.specs.Match.{sortFits}
 use Rattle.paper.specs.Overlap.{Says, entryOfPolicy, witnessUid, witnessLeft}
 use Rattle.paper.specs.Promises.{fileOf, judgeEvent}
 use Rattle.paper.proofs.Computing.{computing}
 use Rattle.paper.proofs.Example.{example}
-use Rattle.meeting.specs.Best.{better, push, step, row, bestBy, lowerOrSame, comesFirst, inDomain, firstIn, alone, bestFrom, bestStack}
-use Rattle.overlap.specs.Clash.{isRoot, apart, clashStack, pairStack}
+use Rattle.overlap_meeting.specs.Best.{better, inFront, firstsOf, bestWith, row, bestBy, lowerOrSame, comesFirst, inDomain, lowestIn, alone, bestStack}
+use Rattle.overlap.specs.Clash.{isRoot, apart, mayClash, clashStack, pairStack}
 use Rattle.overlap.proofs.Two.{two-clear, two-clash}
 
 -- "main 0, add 1, sum 2"
@@ -64,7 +65,7 @@ trials =
     ∷ event (0 ∷ 9 ∷ []) 5 0 [] (Unjudged 23)
     ∷ []
 
-abbrev judged : Page → List ℕ → ℕ → ℕ → List ℕ → Verdict
+abbrev judged : Outcome → List ℕ → ℕ → ℕ → List ℕ → Verdict
 judged (fields fs) stack operation target allocation =
     judgeEvent (policyOf fs) operation target (record { stack = stack; uid = 5; gid = 0 }) (record { stack = allocation; uid = 0; gid = 0 })
 judged (fault number line) stack operation target allocation = Unjudged number
@@ -102,7 +103,7 @@ abbrev computed : Trial → Answer
 computed (event s operation target allocation v) = verdict (judged (fileOf example) s operation target allocation)
 computed (pair one uid other uid′ s) =
     let found : List ℕ = pairStack (policy (entry one uid) (entry other uid′)) 0 1 in
-    stack found (leb (length found) 32)
+    stack found (leb (length found) witnessWords)
 
 abbrev told : Trial → Answer
 told (event s operation target allocation v) = verdict v
@@ -116,8 +117,8 @@ claimed (pair one uid other uid′ []) e =
     λ old. two-clear (policy (entry one uid) (entry other uid′)) refl old found
 claimed (pair one uid other uid′ (x ∷ s)) e =
     let found : pairStack (policy (entry one uid) (entry other uid′)) 0 1 ≡ x ∷ s = cc in
-    let short : leb (length (x ∷ s)) 32 ≡ true = cc in
-    λ old. two-clash (policy (entry one uid) (entry other uid′)) refl old x s found refl refl (leb-true (length (x ∷ s)) 32 short)
+    let short : leb (length (x ∷ s)) witnessWords ≡ true = cc in
+    λ old. two-clash (policy (entry one uid) (entry other uid′)) refl old x s found refl refl (leb-true (length (x ∷ s)) witnessWords short)
 
 all-claimed : (ts : List Trial) → map computed ts ≡ map told ts → Claims ts
 all-claimed [] e = tt
@@ -127,7 +128,7 @@ all-claimed (t ∷ ts) e =
     (claimed t first, all-claimed ts rest)
 
 unfoldable stacks : Unit {0}
-unfolding better push step row bestBy lowerOrSame comesFirst inDomain firstIn alone bestFrom bestStack isRoot apart clashStack pairStack
+unfolding better inFront firstsOf bestWith row bestBy lowerOrSame comesFirst inDomain lowestIn alone bestStack isRoot apart mayClash clashStack pairStack
 stacks = tt
 
 as-told : Claims trials

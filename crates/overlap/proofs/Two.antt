@@ -7,6 +7,7 @@ use mathlib.Core.Bool.{true}
 use mathlib.Core.List.{List, [], _∷_}
 use lib.ListN.{length, take}
 use Rattle.paper.specs.declared.Report.the-variants.{Clear, Clash}
+use Rattle.paper.specs.Limits.{witnessWords}
 use Rattle.paper.specs.Policy.{Policy}
 use Rattle.paper.specs.Match.{sortFits}
 use Rattle.paper.specs.Overlap.{BothMatch, NeverBoth, Says, entryOfPolicy, witnessUid, witnessLeft}
@@ -36,7 +37,7 @@ module _ (p : Policy) (two : length (p .entries) ≡ 2) (old : List ℕ) where
     held : take (length (x ∷ s)) (witnessLeft (x ∷ s) old) ≡ x ∷ s
     held = take-left (x ∷ s) old (witnessLeft (x ∷ s) old) (length (x ∷ s)) refl refl
 
-    pub two-clash : length (x ∷ s) ≤ 32 → Says p old (witnessLeft (x ∷ s) old) (Clash 0 1 (length (x ∷ s)) (witnessUid (entryOfPolicy p 0) (entryOfPolicy p 1)) 0)
+    pub two-clash : length (x ∷ s) ≤ witnessWords → Says p old (witnessLeft (x ∷ s) old) (Clash 0 1 (length (x ∷ s)) (witnessUid (entryOfPolicy p 0) (entryOfPolicy p 1)) 0)
     two-clash short = record {
       ordered = omega arith;
       listed = omega arith;

@@ -1,33 +1,38 @@
 -- The entries of a well-formed table, and the words that the report reads of them.
-use Prim.Native.Nat.{ℕ, zero, suc, _+_, _*_, _<_, _≤_}
+use Prim.Native.Nat.{ℕ, zero, suc, _+_, _<_, _≤_}
 use native.Mathlib.Omega.{arith}
 use native.Mathlib.Nat.{zero-add}
 use mathlib.Core.Path.{_≡_, refl, sym, _∙_}
-use mathlib.Core.Bool.{Bool, true, false, cond}
-use mathlib.Core.List.{List, [], _++_, map}
+use mathlib.Core.Bool.{Bool, true, false, not}
+use mathlib.Core.List.{List, [], map}
 use lib.Dec.{eqb, ltb, leb}
-use lib.ListN.{length, getD, take, drop, replicate, length-take}
-use borrow.Author.Tests.{eq-eqb, ne-eqb, leb-true, ltb-true, le-leb, lt-leb}
-use Rattle.paper.specs.Table.{padded, elementIn, sortIn, contextIn, entryIn, policyIn, contextFits, entryAt, entryCount, wellFormed}
+use lib.ListN.{length, length-take, length-map}
+use borrow.Author.Tests.{eq-eqb, ne-eqb, leb-true, ltb-true, le-leb, lt-leb, not-true, not-false}
+use Rattle.paper.specs.Limits.{mostEntries, mostElements, witnessWords}
+use Rattle.paper.specs.Scalars.{sortNumber}
+use Rattle.paper.specs.Table.{subjectAt, uidAt, gidAt, gidSorts, entryAt, word, elementCount, elementIn, sortIn, entryCount}
+use Rattle.paper.specs.Table.{patternWordsIn, functionDomainsIn, contextIn, entryIn, policyIn, contextFits, wellFormed}
 use Rattle.paper.specs.Match.{sortFits}
 use Rattle.paper.specs.Overlap.{isUser, entryOfPolicy, witnessUid, witnessLeft}
 use Rattle.laws.proofs.Tests.{both-left, both-right}
 use Rattle.laws.proofs.Counting.{length-map-counted, getD-counted}
-use Rattle.inverse.proofs.Formed.{formed}
-use Rattle.inverse.proofs.Entries.{entry-context}
-use Rattle.meeting.specs.Best.{bestStack}
-use Rattle.overlap.specs.Clash.{isRoot, apart, clashStack, pairStack, tableStack}
+use Rattle.laws_table.proofs.Formed.{formed}
+use Rattle.laws_table.proofs.Entries.{entry-context}
+use Rattle.overlap_meeting.specs.Best.{bestStack}
+use Rattle.overlap_meeting.specs.Written.{Fits, Written}
+use Rattle.overlap.specs.Clash.{isRoot, apart, mayClash, clashStack, pairStack, tableStack}
+use Rattle.overlap.proofs.Clash.{clash-short}
 
 -- ---- sorts
 pub apart-root : (a b : ℕ) → a ≡ 2 → leb 3 b ≡ apart (sortIn a) (sortIn b)
-unfolding sortIn apart isUser
+unfolding sortIn apart isUser isRoot sortNumber
 apart-root a zero e = rw e
 apart-root a (suc zero) e = rw e
 apart-root a (suc (suc zero)) e = rw e
 apart-root a (suc (suc (suc b))) e = rw (e, le-leb 3 (suc (suc (suc b))) (omega arith))
 
 pub apart-user : (a b : ℕ) → (a ≡ 2 → ⊥) → 3 ≤ a → eqb b 2 ≡ apart (sortIn a) (sortIn b)
-unfolding sortIn apart isRoot
+unfolding sortIn apart isUser isRoot sortNumber
 apart-user zero b n h = absurd (omega arith)
 apart-user (suc zero) b n h = absurd (omega arith)
 apart-user (suc (suc zero)) b n h = absurd (omega arith)
@@ -36,135 +41,130 @@ apart-user (suc (suc (suc a))) (suc zero) n h = refl
 apart-user (suc (suc (suc a))) (suc (suc zero)) n h = refl
 apart-user (suc (suc (suc a))) (suc (suc (suc b))) n h = ne-eqb (suc (suc (suc b))) 2 (λ e. omega arith)
 
-pub apart-other : (a b : ℕ) → (a ≡ 2 → ⊥) → a < 3 → false ≡ apart (sortIn a) (sortIn b)
-unfolding sortIn apart
-apart-other zero b n h = refl
-apart-other (suc zero) b n h = refl
-apart-other (suc (suc zero)) b n h = absurd (n refl)
-apart-other (suc (suc (suc a))) b n h = absurd (omega arith)
+pub apart-neither : (a b : ℕ) → (a ≡ 2 → ⊥) → a < 3 → false ≡ apart (sortIn a) (sortIn b)
+unfolding sortIn apart isUser isRoot sortNumber
+apart-neither zero b n h = refl
+apart-neither (suc zero) b n h = refl
+apart-neither (suc (suc zero)) b n h = absurd (n refl)
+apart-neither (suc (suc (suc a))) b n h = absurd (omega arith)
 
 user-word : (w : ℕ) → isUser (sortIn w) ≡ leb 3 w
-unfolding sortIn isUser
+unfolding sortIn isUser sortNumber
 user-word zero = refl
 user-word (suc zero) = refl
 user-word (suc (suc zero)) = refl
 user-word (suc (suc (suc w))) = sym (le-leb 3 (suc (suc (suc w))) (omega arith))
 
-gid-word : (w : ℕ) → w < 2 → sortFits (sortIn w) 0 ≡ true
+gid-word : (w : ℕ) → w < gidSorts → sortFits (sortIn w) 0 ≡ true
 unfolding sortIn sortFits
 gid-word zero h = refl
 gid-word (suc zero) h = refl
 gid-word (suc (suc w)) h = absurd (omega arith)
 
--- ---- uids
-module _ (ws : List ℕ) (i j a b : ℕ) (wordA : a ≡ getD ws (2080 + 44 * i + 1) 0) where
-  one-is-user : 3 ≤ a → isUser (entryIn ws i .context .uid) ≡ true
-  unfolding entryIn contextIn
-  one-is-user h = user-word (getD ws (2080 + 44 * i + 1) 0) ∙ rw (← wordA) (le-leb 3 a h)
+-- ---- an entry
+module _ (ws : List ℕ) (k a : ℕ) (place : a ≡ entryAt k) where
+  pub word-of-entry : (n r : ℕ) → r ≡ word ws (a + n) → r ≡ word ws (entryAt k + n)
+  word-of-entry n r h = rw (← place) h
 
-  one-is-not : a < 3 → isUser (entryIn ws i .context .uid) ≡ false
+  pub pattern-of-entry : (r : List ℕ) → r ≡ patternWordsIn ws a → r ≡ patternWordsIn ws (entryAt k)
+  pattern-of-entry r h = rw (← place) h
+
+-- ---- two entries
+module _ (ws : List ℕ) (i j a b : ℕ) (uidA : a ≡ word ws (entryAt i + uidAt)) where
+  says-user : 3 ≤ a → isUser (entryIn ws i .context .uid) ≡ true
   unfolding entryIn contextIn
-  one-is-not h = user-word (getD ws (2080 + 44 * i + 1) 0) ∙ rw (← wordA) (lt-leb 3 a h)
+  says-user h = user-word (word ws (entryAt i + uidAt)) ∙ rw (← uidA) (le-leb 3 a h)
+
+  says-other : a < 3 → isUser (entryIn ws i .context .uid) ≡ false
+  unfolding entryIn contextIn
+  says-other h = user-word (word ws (entryAt i + uidAt)) ∙ rw (← uidA) (lt-leb 3 a h)
 
   pub uid-of-one : 3 ≤ a → 1 ≡ witnessUid (entryIn ws i) (entryIn ws j)
   unfolding witnessUid
-  uid-of-one h = rw (one-is-user h)
+  uid-of-one h = rw (says-user h)
 
-module _ (ws : List ℕ) (i j a b : ℕ) (wordA : a ≡ getD ws (2080 + 44 * i + 1) 0) (wordB : b ≡ getD ws (2080 + 44 * j + 1) 0) where
+module _ (ws : List ℕ) (i j a b : ℕ) (uidA : a ≡ word ws (entryAt i + uidAt)) (uidB : b ≡ word ws (entryAt j + uidAt)) where
   pub uid-of-other : a < 3 → 3 ≤ b → 1 ≡ witnessUid (entryIn ws i) (entryIn ws j)
   unfolding witnessUid
-  uid-of-other h k = rw (one-is-not ws i j a b wordA h, one-is-user ws j i b a wordB k)
+  uid-of-other h k = rw (says-other ws i j a b uidA h, says-user ws j i b a uidB k)
 
-  pub uid-of-none : a < 3 → b < 3 → 0 ≡ witnessUid (entryIn ws i) (entryIn ws j)
+  pub uid-of-neither : a < 3 → b < 3 → 0 ≡ witnessUid (entryIn ws i) (entryIn ws j)
   unfolding witnessUid
-  uid-of-none h k = rw (one-is-not ws i j a b wordA h, one-is-not ws j i b a wordB k)
+  uid-of-neither h k = rw (says-other ws i j a b uidA h, says-other ws j i b a uidB k)
+
+  pub may-clash : (d e : ℕ) (t : Bool) → d ≡ word ws (entryAt i + subjectAt) → e ≡ word ws (entryAt j + subjectAt) → d ≡ e → t ≡ apart (sortIn a) (sortIn b) →
+      not t ≡ mayClash (entryIn ws i) (entryIn ws j)
+  unfolding mayClash entryIn contextIn
+  may-clash d e t f g same told = rw (told, uidA, uidB, eq-eqb _ _ (sym f ∙ (same ∙ g)))
+
+pub subjects-differ : (ws : List ℕ) (i j d e : ℕ) → d ≡ word ws (entryAt i + subjectAt) → e ≡ word ws (entryAt j + subjectAt) → (d ≡ e → ⊥) →
+    false ≡ mayClash (entryIn ws i) (entryIn ws j)
+unfolding mayClash entryIn
+subjects-differ ws i j d e f g n = rw (ne-eqb _ _ (λ h. n (f ∙ (h ∙ sym g))))
 
 -- ---- a well-formed table
 module _ (ws : List ℕ) (good : wellFormed ws ≡ true) where
-  pub few-entries : getD ws 5 0 ≤ 128
+  pub few-entries : entryCount ws ≤ mostEntries
   few-entries = formed ws good .fewEntries
 
-  pub few-functions : getD ws 4 0 ≤ 1024
-  few-functions = formed ws good .fewFunctions
-
-  module _ (k : ℕ) (h : k < getD ws 5 0) where
-    context-good : contextFits ws (2080 + 44 * k) ≡ true
+  module _ (k : ℕ) (h : k < entryCount ws) where
+    context-good : contextFits ws (entryAt k) ≡ true
     context-good = entry-context ws (entryAt k) (formed ws good .entry k h)
 
-    pub few-elements : getD ws (2080 + 44 * k) 0 ≤ 16
+    few-elements : elementCount ws (entryAt k) ≤ mostElements
     unfolding contextFits
     few-elements = let c = context-good in leb-true _ _ (search (both-left, both-right) depth 8)
+
+    short-pattern : length (patternWordsIn ws (entryAt k)) ≤ mostElements
+    short-pattern = rw length-take (let l = few-elements in omega arith)
 
     pub gid-free : sortFits (entryIn ws k .context .gid) 0 ≡ true
     unfolding entryIn contextIn contextFits
     gid-free =
         let c = context-good in
-        let l : ltb (getD ws (2080 + 44 * k + 2) 0) 2 ≡ true = search (both-left, both-right) depth 8 in
-        gid-word (getD ws (2080 + 44 * k + 2) 0) (ltb-true _ _ l)
+        let l : ltb (word ws (entryAt k + gidAt)) gidSorts ≡ true = search (both-left, both-right) depth 8 in
+        gid-word (word ws (entryAt k + gidAt)) (ltb-true _ _ l)
 
     pub entry-read : entryOfPolicy (policyIn ws) k ≡ entryIn ws k
     unfolding entryOfPolicy policyIn
     entry-read = getD-counted (entryIn ws) _ 0 (entryCount ws) k h ∙ rw zero-add
 
+  module _ (i j : ℕ) (hi : i < entryCount ws) (hj : j < entryCount ws) where
+    pub pair-read : pairStack (policyIn ws) i j ≡ tableStack ws i j
+    unfolding pairStack tableStack policyIn
+    pair-read = rw (entry-read i hi, entry-read j hj)
+
+    pub stack-short : length (tableStack ws i j) ≤ witnessWords
+    unfolding tableStack policyIn entryIn contextIn
+    stack-short =
+        let s = clash-short (policyIn ws) (entryIn ws i) (entryIn ws j) in
+        let a = short-pattern i hi in
+        let b = short-pattern j hj in
+        let x = length-map (patternWordsIn ws (entryAt i)) elementIn in
+        let y = length-map (patternWordsIn ws (entryAt j)) elementIn in
+        omega arith
+
+    -- the parts of the table that are read fit
+    pub parts-fit : (p q functions witness : List ℕ) → p ≡ patternWordsIn ws (entryAt i) → q ≡ patternWordsIn ws (entryAt j) → functions ≡ functionDomainsIn ws →
+        witnessWords ≤ length witness → Fits p q functions witness
+    parts-fit p q functions witness e f g room = record {
+      one = rw e (short-pattern i hi);
+      other = rw f (short-pattern j hj);
+      listed = rw (g, length-take) (let l = formed ws good .fewFunctions in omega arith);
+      room = room;
+    }
+
 pub entries-counted : (ws : List ℕ) → length (policyIn ws .entries) ≡ entryCount ws
 unfolding policyIn
 entries-counted ws = length-map-counted (entryIn ws) 0 (entryCount ws)
 
--- ---- the stack of a pair
-either-way : (t : Bool) → _≡_ {A = List ℕ} (cond t [] []) []
-either-way true = refl
-either-way false = refl
+-- ---- the stack of a pair, written
+module _ (ws : List ℕ) (i j : ℕ) (t : Bool) (tested : t ≡ mayClash (entryIn ws i) (entryIn ws j)) (old new : List ℕ) where
+  pub none-written : not t ≡ true → new ≡ witnessLeft [] old → Written (tableStack ws i j) old new 0
+  unfolding tableStack clashStack
+  none-written h e = rw (← tested, not-true t h) (record { counted = refl; left = e })
 
-pub zeros-left : (old : List ℕ) → replicate 32 0 ++ drop 32 old ≡ witnessLeft [] old
-unfolding witnessLeft padded
-zeros-left old = refl
-
-module _ (ws : List ℕ) (i j : ℕ) where
-  pub pair-read : wellFormed ws ≡ true → i < getD ws 5 0 → j < getD ws 5 0 → pairStack (policyIn ws) i j ≡ tableStack ws i j
-  unfolding pairStack tableStack policyIn
-  pair-read good h k = rw (entry-read ws good i h, entry-read ws good j k)
-
-  module _ (d e : ℕ) (subjectA : d ≡ getD ws (2080 + 44 * i + 20) 0) (subjectB : e ≡ getD ws (2080 + 44 * j + 20) 0) where
-    subjects-differ : (d ≡ e → ⊥) → tableStack ws i j ≡ []
-    unfolding tableStack clashStack entryIn
-    subjects-differ n = rw (ne-eqb _ _ (λ f. n (subjectA ∙ (f ∙ sym subjectB))))
-
-    pub no-frames : (d ≡ e → ⊥) → 0 ≡ length (tableStack ws i j)
-    no-frames n = rw (subjects-differ n)
-
-    pub nothing-left : (old new : List ℕ) → (d ≡ e → ⊥) → new ≡ replicate 32 0 ++ drop 32 old → new ≡ witnessLeft (tableStack ws i j) old
-    nothing-left old new n f = rw (subjects-differ n) (f ∙ zeros-left old)
-
-  module _ (a b : ℕ) (t : Bool) (uidA : a ≡ getD ws (2080 + 44 * i + 1) 0) (uidB : b ≡ getD ws (2080 + 44 * j + 1) 0) (told : t ≡ apart (sortIn a) (sortIn b)) where
-    uids-differ : t ≡ true → tableStack ws i j ≡ []
-    unfolding tableStack clashStack entryIn contextIn
-    uids-differ h = rw (← uidA, ← uidB, ← told, h) (either-way (eqb (getD ws (2080 + 44 * i + 20) 0) (getD ws (2080 + 44 * j + 20) 0)))
-
-    pub no-frames-apart : t ≡ true → 0 ≡ length (tableStack ws i j)
-    no-frames-apart h = rw (uids-differ h)
-
-    pub nothing-left-apart : (old new : List ℕ) → t ≡ true → new ≡ replicate 32 0 ++ drop 32 old → new ≡ witnessLeft (tableStack ws i j) old
-    nothing-left-apart old new h f = rw (uids-differ h) (f ∙ zeros-left old)
-
-    module _ (d e : ℕ) (subjectA : d ≡ getD ws (2080 + 44 * i + 20) 0) (subjectB : e ≡ getD ws (2080 + 44 * j + 20) 0) (same : d ≡ e) where
-      abbrev best : List ℕ
-      best =
-          bestStack
-          (take (getD ws 4 0) (drop 1056 ws))
-          d
-          (map elementIn (take (getD ws (2080 + 44 * i) 0) (drop (2080 + 44 * i + 4) ws)))
-          (map elementIn (take (getD ws (2080 + 44 * j) 0) (drop (2080 + 44 * j + 4) ws)))
-
-      best-read : t ≡ false → tableStack ws i j ≡ best
-      unfolding tableStack clashStack entryIn contextIn
-      best-read h = rw (← subjectA, ← subjectB, ← uidA, ← uidB, eq-eqb d e same, ← told, h)
-
-      pub frames-of-both : (r : ℕ) → t ≡ false → r ≡ length best → r ≡ length (tableStack ws i j)
-      frames-of-both r h f = rw (best-read h) f
-
-      pub left-of-both : (old new : List ℕ) → t ≡ false → new ≡ witnessLeft best old → new ≡ witnessLeft (tableStack ws i j) old
-      left-of-both old new h f = rw (best-read h) f
-
--- ---- a part of the table
-pub taken-short : (ws P : List ℕ) (at n m : ℕ) → P ≡ take n (drop at ws) → n ≤ m → length P ≤ m
-taken-short ws P at n m e h = rw (e, length-take) (omega arith)
+  pub clash-written : (p q functions : List ℕ) (d r : ℕ) → not t ≡ false → p ≡ patternWordsIn ws (entryAt i) → q ≡ patternWordsIn ws (entryAt j) → functions ≡ functionDomainsIn ws →
+      d ≡ word ws (entryAt i + subjectAt) → Written (bestStack functions d (map elementIn p) (map elementIn q)) old new r → Written (tableStack ws i j) old new r
+  unfolding tableStack clashStack entryIn contextIn
+  clash-written p q functions d r h e f g k w = rw (← tested, not-false t h, ← e, ← f, ← g, ← k) w

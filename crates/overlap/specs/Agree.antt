@@ -3,6 +3,7 @@ use Prim.Native.Nat.{ℕ}
 use mathlib.Core.Path.{_≡_}
 use mathlib.Core.List.{List}
 use lib.ListN.{drop}
+use Rattle.paper.specs.Limits.{witnessWords}
 use Rattle.paper.specs.declared.Report.{Report}
 use Rattle.paper.specs.declared.Report.the-variants.{Clear, Clash, Unreported}
 
@@ -13,7 +14,7 @@ AgreeButStack Clear new (Clash lower′ higher′ depth′ uid′ gid′) new′
 AgreeButStack Clear new (Unreported number′) new′ = ⊥
 AgreeButStack (Clash lower higher depth uid gid) new Clear new′ = ⊥
 AgreeButStack (Clash lower higher depth uid gid) new (Clash lower′ higher′ depth′ uid′ gid′) new′ =
-    (lower ≡ lower′) × (higher ≡ higher′) × (uid ≡ uid′) × (gid ≡ gid′) × (drop 32 new ≡ drop 32 new′)
+    (lower ≡ lower′) × (higher ≡ higher′) × (uid ≡ uid′) × (gid ≡ gid′) × (drop witnessWords new ≡ drop witnessWords new′)
 AgreeButStack (Clash lower higher depth uid gid) new (Unreported number′) new′ = ⊥
 AgreeButStack (Unreported number) new Clear new′ = ⊥
 AgreeButStack (Unreported number) new (Clash lower′ higher′ depth′ uid′ gid′) new′ = ⊥

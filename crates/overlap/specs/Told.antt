@@ -1,42 +1,54 @@
--- What the loops over the pairs of a table say.
-use Prim.Native.Nat.{ℕ, _<_}
+-- What the loops over the pairs of a table say, and that the stack of the report is the least.
+use Prim.Native.Nat.{ℕ, _<_, _≤_}
 use mathlib.Core.Path.{_≡_}
+use mathlib.Core.Bool.{true}
 use mathlib.Core.List.{List, []}
 use lib.ListN.{length, take, drop}
 use Rattle.paper.specs.declared.Report.{Report}
 use Rattle.paper.specs.declared.Report.the-variants.{Clear, Clash, Unreported}
+use Rattle.paper.specs.Limits.{mostEntries, witnessWords}
 use Rattle.paper.specs.Policy.{Policy}
-use Rattle.paper.specs.Table.{entryCount, entryIn}
+use Rattle.paper.specs.Table.{entryCount, entryIn, wellFormed}
 use Rattle.paper.specs.Match.{Moment}
 use Rattle.paper.specs.Overlap.{BothMatch, PairBefore, witnessUid, witnessLeft}
-use Rattle.meeting.specs.Best.{NotAfter}
+use Rattle.overlap_meeting.specs.Best.{NotAfter}
+use Rattle.overlap_meeting.specs.Written.{Written}
 use Rattle.overlap.specs.declared.Found.{Found}
 use Rattle.overlap.specs.declared.Found.the-variants.{Nothing, At}
 use Rattle.overlap.specs.Clash.{tableStack}
+
+-- the table is well formed, and the witness has room
+pub record Ready (ws witness : List ℕ) : Type 0 where
+  pub formed : wellFormed ws ≡ true
+  pub few : entryCount ws ≤ mostEntries
+  pub room : witnessWords ≤ length witness
 
 -- no pair before these two clashes
 unfoldable pub NoneBefore : List ℕ → ℕ → ℕ → Type 0
 NoneBefore ws i j = (x y : ℕ) → x < y → y < entryCount ws → PairBefore x y i j → tableStack ws x y ≡ []
 
--- entry i clashes with entry j, and the witness holds their stack
+-- the words past those of the witness are as they were
+abbrev pub PastKept : List ℕ → List ℕ → Type 0
+PastKept old new = drop witnessWords new ≡ drop witnessWords old
+
+-- entries i and j are the first that clash, and the witness holds their stack
 pub record Clashing (ws old new : List ℕ) (i j depth : ℕ) : Type 0 where
   pub ordered : i < j
   pub listed : j < entryCount ws
   pub some : depth ≡ 0 → ⊥
-  pub counted : depth ≡ length (tableStack ws i j)
-  pub left : new ≡ witnessLeft (tableStack ws i j) old
+  pub written : Written (tableStack ws i j) old new depth
   pub first : NoneBefore ws i j
 
--- the first entry after entry i that clashes with it, where none before i clashes
-abbrev pub Later : List ℕ → List ℕ → List ℕ → ℕ → Found → Type 0
-Later ws old new i Nothing = NoneBefore ws i (entryCount ws) × (drop 32 new ≡ drop 32 old)
-Later ws old new i (At j depth) = Clashing ws old new i j depth
+-- the first entry after entry i that clashes with it, where no pair before does
+abbrev pub FirstAfter : List ℕ → List ℕ → List ℕ → ℕ → Found → Type 0
+FirstAfter ws old new i Nothing = NoneBefore ws i (entryCount ws) × PastKept old new
+FirstAfter ws old new i (At j depth) = Clashing ws old new i j depth
 
 -- the first pair that clashes
-abbrev pub Told : List ℕ → List ℕ → List ℕ → Report → Type 0
-Told ws old new Clear = NoneBefore ws (entryCount ws) 0 × (new ≡ witnessLeft [] old)
-Told ws old new (Clash i j depth uid gid) = Clashing ws old new i j depth × (uid ≡ witnessUid (entryIn ws i) (entryIn ws j)) × (gid ≡ 0)
-Told ws old new (Unreported number) = ⊥
+abbrev pub FirstOfAll : List ℕ → List ℕ → List ℕ → Report → Type 0
+FirstOfAll ws old new Clear = NoneBefore ws (entryCount ws) 0 × (new ≡ witnessLeft [] old)
+FirstOfAll ws old new (Clash i j depth uid gid) = Clashing ws old new i j depth × (uid ≡ witnessUid (entryIn ws i) (entryIn ws j)) × (gid ≡ 0)
+FirstOfAll ws old new (Unreported number) = ⊥
 
 -- no stack that both entries of the reported pair match comes before the one in the witness: it is the shortest, and of these the lowest from the base up
 abbrev pub Least : Policy → List ℕ → Report → Type 0

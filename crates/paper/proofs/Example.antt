@@ -5,10 +5,11 @@ use mathlib.Core.Bool.{true, false}
 use mathlib.Core.List.{List, [], _∷_, _++_, map}
 use Rattle.paper.specs.declared.Map.the-variants.{Objects, Subjects}
 use Rattle.paper.specs.Common.{bytes}
-use Rattle.paper.specs.Page.{Page, fields, fault}
+use Rattle.paper.specs.Page.{Outcome, fields, fault}
 use Rattle.paper.specs.Scalars.{variable, anyone}
 use Rattle.paper.specs.Policy.{Policy, policyOf, all, these}
-use Rattle.paper.specs.Promises.{fileOf, textFilled, lookupAnswer}
+use Rattle.paper.specs.Lookup.{Stretch, nameIn}
+use Rattle.paper.specs.Promises.{fileOf, textFilled}
 use Rattle.paper.proofs.Computing.{computing}
 
 -- the input, whole
@@ -20,7 +21,11 @@ example = exampleMaps ++ bytes "- principal:\n    subject: Bill\n    execution_c
 
 -- the output: "the first nine lines the same, then" these
 abbrev pub exampleFilled : List ℕ
-exampleFilled = exampleMaps ++ bytes "- principal:\n    subject: Bill\n    execution_context:\n      call_context: [all]\n      uid: U\n      gid: all\n  can_call: []\n  can_return: [Main]\n  can_read:\n  - objects: [Meter]\n    object_context:\n      call_context: [all]\n      uid: all\n      gid: all\n  can_write: []\n"
+exampleFilled =
+    exampleMaps
+    ++ (bytes "- principal:\n    subject: Bill\n    execution_context:\n      call_context: [all]\n      uid: U\n      gid: all\n"
+    ++ (bytes "  can_call: []\n  can_return: [Main]\n  can_read:\n  - objects: [Meter]\n"
+    ++ bytes "    object_context:\n      call_context: [all]\n      uid: all\n      gid: all\n  can_write: []\n"))
 
 pub filled-as-told : textFilled (fileOf example) ≡ exampleFilled
 unfolding computing
@@ -31,7 +36,7 @@ pub filled-again : textFilled (fileOf exampleFilled) ≡ exampleFilled
 unfolding computing
 filled-again = refl
 
-abbrev policyRead : Page → Policy
+abbrev pub policyRead : Outcome → Policy
 policyRead (fields fs) = policyOf fs
 policyRead (fault number line) = policyOf []
 
@@ -56,18 +61,21 @@ examplePolicy =
           ∷ [];
     }
 
-means : policyRead (fileOf example) ≡ examplePolicy
+pub means : policyRead (fileOf example) ≡ examplePolicy
 unfolding computing examplePolicy
 means = refl
 
-filled-means-the-same : policyRead (fileOf exampleFilled) ≡ examplePolicy
+pub filled-means-the-same : policyRead (fileOf exampleFilled) ≡ examplePolicy
 unfolding computing examplePolicy
 filled-means-the-same = refl
 
 -- the names of both maps, as stretches of the text; past the last, the empty one at the front
-names-found :
-    map (lookupAnswer example Objects) (0 ∷ 1 ∷ [])
-    ++ map (lookupAnswer example Subjects) (0 ∷ 1 ∷ 2 ∷ [])
+abbrev names : Outcome → List Stretch
+names (fields fs) = map (λ d. nameIn Objects d (fields fs)) (0 ∷ 1 ∷ []) ++ map (λ d. nameIn Subjects d (fields fs)) (0 ∷ 1 ∷ 2 ∷ [])
+names (fault number line) = []
+
+pub names-found :
+    names (fileOf example)
     ≡ record { start = 20; bytes = bytes "Meter" }
     ∷ record { start = 0; bytes = [] }
     ∷ record { start = 77; bytes = bytes "Main" }

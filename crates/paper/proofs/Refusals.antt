@@ -1,85 +1,21 @@
 -- Texts with the number and line that each gets, 0 and 0 where it is accepted. Points are those of docs/DECISIONS.md.
 use Prim.Native.Nat.{ℕ}
-use Prim.Native.String.{String}
 use mathlib.Core.Path.{_≡_, refl}
-use mathlib.Core.List.{List, [], _∷_, _++_, map, flatMap}
+use mathlib.Core.List.{List, [], _∷_, _++_}
 use lib.ListN.{replicate}
-use Rattle.paper.specs.Common.{bytes, countUp}
-use Rattle.paper.specs.Page.{Page, fields, fault}
-use Rattle.paper.specs.Promises.{fileOf}
+use Rattle.paper.specs.Common.{bytes}
 use Rattle.paper.proofs.Computing.{computing}
-
-record Told : Type 0 where
-  number : ℕ
-  line : ℕ
-
-record Trial : Type 0 where
-  given : List ℕ
-  told : Told
-
--- a text as it stands
-abbrev text : String → ℕ → ℕ → Trial
-text s n l = record { given = bytes s; told = record { number = n; line = l } }
-
--- lines 1 to 7: object domain A, and subject domain B with the function f|g
-abbrev maps : List ℕ
-maps = bytes "object_map:\n- name: A\n  objects: []\nsubject_map:\n- name: B\n  subjects: [f|g]\nprivileges:\n"
-
--- what stands from line 8 on
-abbrev privileges : List ℕ → ℕ → ℕ → Trial
-privileges s n l = record { given = maps ++ s; told = record { number = n; line = l } }
-
--- what stands from line 10 on, in an entry for B
-abbrev entry : String → ℕ → ℕ → Trial
-entry s n l = privileges (bytes "- principal:\n    subject: B\n" ++ bytes s) n l
-
--- what stands from line 11 on, in that entry's execution context
-abbrev context : String → ℕ → ℕ → Trial
-context s n l = privileges (bytes "- principal:\n    subject: B\n    execution_context:\n" ++ bytes s) n l
-
--- one object identifier on line 3
-abbrev objects : String → ℕ → ℕ → Trial
-objects s n l =
-    record {
-      given = bytes "object_map:\n- name: A\n  objects: [" ++ (bytes s ++ bytes "]\nsubject_map: []\nprivileges: []\n");
-      told = record { number = n; line = l };
-    }
-
--- one subject identifier on line 4
-abbrev subjects : String → ℕ → ℕ → Trial
-subjects s n l =
-    record {
-      given = bytes "object_map: []\nsubject_map:\n- name: B\n  subjects: [" ++ (bytes s ++ bytes "]\nprivileges: []\n");
-      told = record { number = n; line = l };
-    }
+use Rattle.paper.proofs.Texts.{Trial, computed, claimed, given, text, privileges, entry, context, objects, subjects}
 
 -- a name of so many bytes on line 2
 abbrev longName : ℕ → ℕ → ℕ → Trial
 longName k n l =
-    record {
-      given = bytes "object_map:\n- name: " ++ (replicate k 97 ++ bytes "\n  objects: []\nsubject_map: []\nprivileges: []\n");
-      told = record { number = n; line = l };
-    }
+    given (bytes "object_map:\n- name: " ++ (replicate k 97 ++ bytes "\n  objects: []\nsubject_map: []\nprivileges: []\n")) n l
 
 -- a subject identifier of so many bytes and two on line 4
 abbrev longIdentifier : ℕ → ℕ → ℕ → Trial
 longIdentifier k n l =
-    record {
-      given = bytes "object_map: []\nsubject_map:\n- name: B\n  subjects: [f|" ++ (replicate k 97 ++ bytes "]\nprivileges: []\n");
-      told = record { number = n; line = l };
-    }
-
--- a line k times from line 10 on, after another and before a third
-abbrev lineTimes : String → ℕ → String → String → ℕ → ℕ → Trial
-lineTimes before k s behind n l =
-    privileges
-    (bytes "- principal:\n    subject: B\n" ++ (bytes before ++ (flatMap (λ i. bytes s) (countUp 0 k) ++ bytes behind)))
-    n
-    l
-
-abbrev tell : Page → Told
-tell (fields fs) = record { number = 0; line = 0 }
-tell (fault n l) = record { number = n; line = l }
+    given (bytes "object_map: []\nsubject_map:\n- name: B\n  subjects: [f|" ++ (replicate k 97 ++ bytes "]\nprivileges: []\n")) n l
 
 -- 3, and that it goes before every fault of the page
 abbrev badBytes : List Trial
@@ -240,50 +176,6 @@ identifiers =
     ∷ longIdentifier 127 5 4
     ∷ []
 
--- point 15: 6
-abbrev limits : List Trial
-limits =
-    context "      call_context: [all, all, all, all, all, all, all, all, all, all, all, all, all, all, all, f|g]\n" 0 0
-    ∷ context "      call_context: [all, all, all, all, all, all, all, all, all, all, all, all, all, all, all, all, f|g]\n" 6 11
-    ∷ lineTimes "  can_read:\n" 255 "  - objects:\n" "" 0 0
-    ∷ lineTimes "  can_read:\n" 256 "  - objects:\n" "" 6 8
-    ∷ lineTimes "  can_read:\n" 256 "  - objects: []\n" "  can_write: []\n" 0 0
-    ∷ lineTimes "" 128 "- principal:\n    subject: B\n  can_read:\n  can_write:\n" "" 6 518
-    ∷ lineTimes "  can_read:\n" 256 "  - objects:\n" "  - objects: [A, A, Z]\n" 6 8
-    ∷ []
-
--- points 16 to 18: 7, 8, 10 and 11, and the order among 6 to 11
-abbrev rules : List Trial
-rules =
-    text "object_map:\n- name: A\n  objects: []\nsubject_map:\n- name: A\n  subjects: []\nprivileges: []\n" 7 5
-    ∷ text "object_map:\n- name: A\n  objects: [OTHER|||]\n- name: C\n  objects: [OTHER|||]\nsubject_map: []\nprivileges: []\n" 7 5
-    ∷ text "object_map: []\nsubject_map:\n- name: B\n  subjects: [f|g, f|g]\nprivileges: []\n" 7 4
-    ∷ entry "  can_call: [B, B]\n" 7 10
-    ∷ entry "  can_read:\n  - objects: [A]\n  - objects: [A]\n" 0 0
-    ∷ entry "  can_read:\n  - objects: [A, A]\n" 7 11
-    ∷ entry "  can_call: [Z]\n  can_return: [B, B]\n" 7 11
-    ∷ entry "  can_call: [A]\n" 8 10
-    ∷ entry "  can_return: [B, Z]\n" 8 10
-    ∷ entry "  can_write:\n  - objects: [B]\n" 8 11
-    ∷ context "      call_context: [all, f|h]\n" 8 11
-    ∷ context "      call_context: [f|g, all, f|g, f|g]\n" 0 0
-    ∷ privileges (bytes "- principal:\n    subject: A\n") 8 9
-    ∷ entry "  can_read:\n  - objects: [A]\n    object_context:\n      uid: U\n" 10 13
-    ∷ context "      uid: U\n  can_read:\n  - objects: [A]\n    object_context:\n      uid: V\n" 10 15
-    ∷ context "      uid: U\n  can_read:\n  - objects: [A]\n    object_context:\n      gid: U\n" 10 15
-    ∷ context "      uid: U\n  can_read:\n  - objects: [A]\n    object_context:\n      uid: U\n" 0 0
-    ∷ context "      uid: U\n      gid: U\n  can_write:\n  - objects: [A]\n    object_context:\n      uid: U\n      gid: U\n" 0 0
-    ∷ context "      uid: root\n  can_write:\n  - objects: [A]\n    object_context:\n      uid: user\n      gid: all\n" 0 0
-    ∷ entry "- principal:\n    subject: B\n    execution_context:\n      call_context: [all]\n      uid: all\n" 11 10
-    ∷ entry "- principal:\n    subject: B\n    execution_context:\n      call_context: [all, all]\n" 0 0
-    ∷ context "      uid: U\n- principal:\n    subject: B\n    execution_context:\n      uid: V\n" 11 12
-    ∷ context "      uid: U\n- principal:\n    subject: B\n    execution_context:\n      uid: all\n" 0 0
-    ∷ context "      gid: U\n- principal:\n    subject: B\n    execution_context:\n      uid: U\n" 0 0
-    ∷ entry "- principal:\n    subject: B\n- principal:\n    subject: B\n" 11 10
-    ∷ entry "  can_call: [Z]\n  can_read:\n  - objects: [A]\n    object_context:\n      uid: U\n" 8 10
-    ∷ entry "- principal:\n    subject: B\n  can_read:\n  - objects: [A]\n    object_context:\n      uid: U\n" 10 15
-    ∷ []
-
 -- faults on one line, and on two: 4 before 9 before 5 on one, the smaller of two lines, the page before the rules
 abbrev orders : List Trial
 orders =
@@ -307,12 +199,9 @@ oddities =
     ∷ entry "  can_read:\n  - objects:\n  - objects: all\n    object_context: all\n  - objects: [A]\n    object_context:\n      call_context: [all]\n" 0 0
     ∷ []
 
-as-told :
-    map
-    (λ (t : Trial). tell (fileOf (t .given)))
-    (badBytes ++ (ofLines ++ (ofKeys ++ (empty ++ (values ++ (identifiers ++ (limits ++ (rules ++ (orders ++ oddities)))))))))
-    ≡ map
-    (λ (t : Trial). t .told)
-    (badBytes ++ (ofLines ++ (ofKeys ++ (empty ++ (values ++ (identifiers ++ (limits ++ (rules ++ (orders ++ oddities)))))))))
+abbrev all : List Trial
+all = badBytes ++ (ofLines ++ (ofKeys ++ (empty ++ (values ++ (identifiers ++ (orders ++ oddities))))))
+
+as-told : computed all ≡ claimed all
 unfolding computing
 as-told = refl

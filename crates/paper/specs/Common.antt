@@ -49,18 +49,18 @@ same (x ∷ xs) [] = false
 same (x ∷ xs) (y ∷ ys) = eqb x y && same xs ys
 
 -- the second stretch begins with the first
-unfoldable pub startsWith : List ℕ → List ℕ → Bool
-startsWith [] ys = true
-startsWith (x ∷ xs) [] = false
-startsWith (x ∷ xs) (y ∷ ys) = eqb x y && startsWith xs ys
+unfoldable pub isFrontOf : List ℕ → List ℕ → Bool
+isFrontOf [] ys = true
+isFrontOf (x ∷ xs) [] = false
+isFrontOf (x ∷ xs) (y ∷ ys) = eqb x y && isFrontOf xs ys
 
--- the stretch is this word
+-- the stretch holds these bytes
 abbrev pub is : String → List ℕ → Bool
-is word s = same (bytes word) s
+is text s = same (bytes text) s
 
--- the stretch is one of these words
+-- the stretch is one of these
 unfoldable pub isOne : List String → List ℕ → Bool
-isOne words s = anyOf (λ word. is word s) words
+isOne texts s = anyOf (λ text. is text s) texts
 
 -- the stretch stands in the list
 unfoldable pub among : List ℕ → List (List ℕ) → Bool

@@ -6,7 +6,7 @@ use lib.Dec.{eqb}
 use lib.ListN.{getD}
 use Rattle.paper.specs.Common.{bytes, anyOf, isEmpty}
 use Rattle.paper.specs.Listing.{principal, executionContext, canRead, canWrite, callContextIn, objectContextIn, objectsIn}
-use Rattle.paper.specs.Page.{Field}
+use Rattle.paper.specs.Page.{Field, noField}
 
 -- the field stands at this place of the listing
 abbrev pub isAt : ℕ → Field → Bool
@@ -62,4 +62,4 @@ itemsOf access entry = stretchesFrom (objectsIn access) entry
 
 -- the line of an entry is that of its `principal`
 unfoldable pub lineOfEntry : List Field → ℕ
-lineOfEntry entry = getD entry 0 (record { line = 0; place = 0; value = [] }) .line
+lineOfEntry entry = getD entry 0 noField .line

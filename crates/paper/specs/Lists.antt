@@ -5,27 +5,25 @@ use mathlib.Core.Bool.{Bool, cond, not, _&&_, Bool·beq}
 use lib.Dec.{eqb, leb}
 use lib.ListN.{length, getD, take, drop}
 use Rattle.paper.specs.Common.{isEmpty, allOf, cut}
-use Rattle.paper.specs.Text.{space}
-use Rattle.paper.specs.Scalars.{Scalar, isScalar}
-
--- "one space after each comma"
-abbrev pub comma : ℕ
-comma = 44
+use Rattle.paper.specs.declared.Scalar.{Scalar}
+use Rattle.paper.specs.Text.{space, comma, openBracket, closeBracket}
+use Rattle.paper.specs.Scalars.{isScalar}
 
 -- a value that begins with `[` and ends with `]`
 unfoldable pub bracketed : List ℕ → Bool
-bracketed v = leb 2 (length v) && eqb (getD v 0 0) 91 && eqb (getD v (length v - 1) 0) 93
+bracketed v = leb 2 (length v) && eqb (getD v 0 0) openBracket && eqb (getD v (length v - 1) 0) closeBracket
 
 -- what stands between the brackets
 abbrev pub inside : List ℕ → List ℕ
 inside v = take (length v - 2) (drop 1 v)
 
--- "one space after each comma and none elsewhere"; `last` is the byte before
+-- "one space after each comma and none elsewhere": each byte is a space exactly where the byte before it, `last`, is a comma, and no comma is the last byte;
+-- before the first byte `last` is 0, which is no byte of a page
 unfoldable pub spaced : ℕ → List ℕ → Bool
 spaced last [] = not (eqb last comma)
 spaced last (b ∷ bs) = Bool·beq (eqb last comma) (eqb b space) && spaced b bs
 
--- a piece without its spaces
+-- an element, of what stands between two commas: the space behind the first of them is not part of it
 unfoldable pub unspaced : List ℕ → List ℕ
 unspaced [] = []
 unspaced (b ∷ bs) = cond (eqb b space) (unspaced bs) (b ∷ unspaced bs)

@@ -1,14 +1,13 @@
 -- Name lookup (document 01, "Numbers that come back", last paragraph).
-use Prim.Native.Nat.{ℕ, _+_, _-_}
-use mathlib.Core.List.{List, [], _∷_}
+use Prim.Native.Nat.{ℕ}
+use mathlib.Core.List.{List, []}
 use mathlib.Core.Bool.{cond}
-use lib.Dec.{eqb, ltb}
+use lib.Dec.{ltb}
 use lib.ListN.{length, getD}
 use Rattle.paper.specs.declared.Map.{Map}
 use Rattle.paper.specs.declared.Map.the-variants.{Objects, Subjects}
-use Rattle.paper.specs.Text.{lineFeed}
-use Rattle.paper.specs.Listing.{keyAt, objectName, subjectName}
-use Rattle.paper.specs.Page.{Field, Page, fields, fault}
+use Rattle.paper.specs.Listing.{objectName, subjectName}
+use Rattle.paper.specs.Page.{Field, noField, Outcome, fields, fault}
 use Rattle.paper.specs.Entries.{fieldsAt}
 
 -- a stretch of a text: where it begins, and the bytes in it
@@ -20,14 +19,9 @@ pub record Stretch : Type 0 where
 unfoldable pub front : Stretch
 front = record { start = 0; bytes = [] }
 
--- how many bytes stand before the line that n others precede
-unfoldable pub bytesBefore : ℕ → List ℕ → ℕ
-bytesBefore n [] = 0
-bytesBefore n (b ∷ bs) = cond (eqb n 0) 0 (bytesBefore (cond (eqb b lineFeed) (n - 1) n) bs + 1)
-
--- "the very stretch of the lent text that holds" a field's value: it follows the key and a space on the field's line
-unfoldable pub stretchOf : List ℕ → Field → Stretch
-stretchOf t f = record { start = bytesBefore (f .line - 1) t + length (keyAt (f .place)) + 1; bytes = f .value }
+-- "the very stretch of the lent text that holds" a field's value
+unfoldable pub stretchOf : Field → Stretch
+stretchOf f = record { start = f .start; bytes = f .value }
 
 -- where a map's names stand
 abbrev pub namesOf : Map → ℕ
@@ -35,10 +29,10 @@ namesOf Objects = objectName
 namesOf Subjects = subjectName
 
 -- the name of domain d, where "the number is .. below that map's count"
-unfoldable pub nameAmong : List ℕ → List Field → ℕ → Stretch
-nameAmong t names d = cond (ltb d (length names)) (stretchOf t (getD names d (record { line = 0; place = 0; value = [] }))) front
+unfoldable pub nameAmong : List Field → ℕ → Stretch
+nameAmong names d = cond (ltb d (length names)) (stretchOf (getD names d noField)) front
 
 -- "where the reader would refuse the text (2 to 11) .. an empty stretch at the front"
-abbrev pub nameIn : List ℕ → Map → ℕ → Page → Stretch
-nameIn t map d (fields file) = nameAmong t (fieldsAt (namesOf map) file) d
-nameIn t map d (fault number line) = front
+abbrev pub nameIn : Map → ℕ → Outcome → Stretch
+nameIn which d (fields file) = nameAmong (fieldsAt (namesOf which) file) d
+nameIn which d (fault number line) = front

@@ -6,7 +6,7 @@ use mathlib.Core.Bool.{Bool, true, false, cond, not, _&&_, _||_}
 use lib.Dec.{eqb, ltb}
 use lib.ListN.{length, getD}
 use Rattle.paper.specs.Common.{isEmpty, allOf, anyOf}
-use Rattle.paper.specs.Scalars.{Sort, anyone, variable, root, user}
+use Rattle.paper.specs.Scalars.{Sort, anyone, variable, root, user, sortNumber}
 use Rattle.paper.specs.Policy.{Element, all, fn, Context, Grant, every, these, Descriptor, Entry, Policy}
 
 -- a moment: "a stack (base first, running function last), uid and gid"
@@ -28,13 +28,12 @@ unfoldable pub firstEquals : ℕ → (List ℕ → Bool) → List ℕ → Bool
 firstEquals f rest [] = false
 firstEquals f rest (x ∷ stack) = eqb f x && rest stack
 
--- the three clauses together
 unfoldable pub matches : List Element → List ℕ → Bool
 matches [] stack = isEmpty stack
 matches (all ∷ pattern) stack = swallowing (matches pattern) stack
 matches (fn f ∷ pattern) stack = firstEquals f (matches pattern) stack
 
--- the sentence, clause by clause
+-- "an empty pattern meets an empty stack"
 pub empty-meets-empty : matches [] [] ≡ true
 unfolding matches
 empty-meets-empty = refl
@@ -75,7 +74,6 @@ sortFits variable id = true
 sortFits root id = eqb id 0
 sortFits user id = not (eqb id 0)
 
--- an entry at a moment
 unfoldable pub entryMatches : Policy → Entry → Moment → Bool
 entryMatches p e m =
     topLiesIn p (e .subject) (m .stack)
@@ -99,19 +97,15 @@ fitsAllocated c m allocation =
     && allocatedSortFits (c .uid) (m .uid) (allocation .uid)
     && allocatedSortFits (c .gid) (m .gid) (allocation .gid)
 
--- "It fits a static object only with every pattern element `all` and uid and gid `all`."
+-- ---- "It fits a static object only with every pattern element `all` and uid and gid `all`."
+
 unfoldable pub isAll : Element → Bool
 isAll all = true
 isAll (fn f) = false
 
--- a sort that is `all`
 unfoldable pub isAnyone : Sort → Bool
-isAnyone anyone = true
-isAnyone variable = false
-isAnyone root = false
-isAnyone user = false
+isAnyone sort = eqb (sortNumber sort) (sortNumber anyone)
 
--- every element, uid and gid are `all`
 unfoldable pub fitsStatic : Context → Bool
 fitsStatic c = allOf isAll (c .pattern) && isAnyone (c .uid) && isAnyone (c .gid)
 
@@ -128,6 +122,5 @@ grants (these set) d = getD set d false
 unfoldable pub descriptorGrants : ℕ → Moment → Moment → Descriptor → Bool
 descriptorGrants d m allocation a = grants (a .objects) d && contextFitsObject (a .context) m allocation
 
--- "by one descriptor"
 unfoldable pub someDescriptorGrants : List Descriptor → ℕ → Moment → Moment → Bool
 someDescriptorGrants descriptors d m allocation = anyOf (descriptorGrants d m allocation) descriptors

@@ -3,19 +3,20 @@ use Prim.Native.Nat.{ℕ, _<_, _≤_}
 use mathlib.Core.Path.{_≡_}
 use mathlib.Core.Logic.{_⊎_}
 use mathlib.Core.List.{List, [], _++_}
-use mathlib.Core.Bool.{Bool, true, false, cond, _||_}
+use mathlib.Core.Bool.{Bool, true, cond, _||_}
+use lib.Dec.{eqb}
 use lib.ListN.{length, getD, take, drop}
 use Rattle.paper.specs.declared.Report.{Report}
 use Rattle.paper.specs.declared.Report.the-variants.{Clear, Clash, Unreported}
-use Rattle.paper.specs.Scalars.{Sort, anyone, variable, root, user}
-use Rattle.paper.specs.Policy.{every, Entry, Policy}
+use Rattle.paper.specs.Limits.{witnessWords}
+use Rattle.paper.specs.Scalars.{Sort, user, sortNumber}
+use Rattle.paper.specs.Policy.{Entry, Policy, noEntry}
 use Rattle.paper.specs.Table.{padded}
 use Rattle.paper.specs.Match.{Moment, entryMatches}
 
 -- entry k of a policy
 unfoldable pub entryOfPolicy : Policy → ℕ → Entry
-entryOfPolicy p k =
-    getD (p .entries) k (record { context = record { pattern = []; uid = anyone; gid = anyone }; subject = 0; calls = every; returns = every; reads = []; writes = [] })
+entryOfPolicy p k = getD (p .entries) k noEntry
 
 -- a moment "is matched by two different entries"
 pub record BothMatch (p : Policy) (i j : ℕ) (m : Moment) : Type 0 where
@@ -32,10 +33,7 @@ PairBefore i j lower higher = (i < lower) ⊎ ((i ≡ lower) × (j < higher))
 
 -- an entry "says `user`"
 unfoldable pub isUser : Sort → Bool
-isUser anyone = false
-isUser variable = false
-isUser root = false
-isUser user = true
+isUser sort = eqb (sortNumber sort) (sortNumber user)
 
 -- "uid (1 if either entry says `user`, else 0)"
 unfoldable pub witnessUid : Entry → Entry → ℕ
@@ -43,7 +41,7 @@ witnessUid a b = cond (isUser (a .context .uid) || isUser (b .context .uid)) 1 0
 
 -- "the witness holds the stack from its base, then zeros to word 32. Words past 32 never change."
 unfoldable pub witnessLeft : List ℕ → List ℕ → List ℕ
-witnessLeft stack old = padded 32 stack ++ drop 32 old
+witnessLeft stack old = padded witnessWords stack ++ drop witnessWords old
 
 -- "the first such pair in file order" with "a moment of at most 32 functions that both match"
 pub record FirstClash (p : Policy) (old new : List ℕ) (lower higher depth uid gid : ℕ) : Type 0 where
@@ -51,7 +49,7 @@ pub record FirstClash (p : Policy) (old new : List ℕ) (lower higher depth uid 
   pub listed : higher < length (p .entries)
   pub first : (i j : ℕ) → i < j → j < length (p .entries) → PairBefore i j lower higher → NeverBoth p i j
   pub both : BothMatch p lower higher (record { stack = take depth new; uid = uid; gid = gid })
-  pub short : depth ≤ 32
+  pub short : depth ≤ witnessWords
   pub left : new ≡ witnessLeft (take depth new) old
   pub uidIs : uid ≡ witnessUid (entryOfPolicy p lower) (entryOfPolicy p higher)
   pub gidIs : gid ≡ 0

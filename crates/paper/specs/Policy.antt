@@ -5,9 +5,10 @@ use mathlib.Core.List.{List, [], _∷_, _++_, map}
 use mathlib.Core.Bool.{Bool, cond}
 use lib.ListN.{length, replicate}
 use Rattle.paper.specs.Common.{is, among, numberIn}
-use Rattle.paper.specs.Scalars.{Sort, sortOf}
+use Rattle.paper.specs.Scalars.{Sort, anyone, sortOf}
 use Rattle.paper.specs.Lists.{elements}
-use Rattle.paper.specs.Listing.{objectName, objectMembers, subjectName, subjectMembers, subjectOfEntry, executionContext, canCall, canReturn, canRead, canWrite, callContextIn, uidIn, gidIn, objectsIn, objectContextIn}
+use Rattle.paper.specs.Listing.{objectName, objectMembers, subjectName, subjectMembers, subjectOfEntry, executionContext}
+use Rattle.paper.specs.Listing.{canCall, canReturn, canRead, canWrite, callContextIn, uidIn, gidIn, objectsIn, objectContextIn}
 use Rattle.paper.specs.Page.{Field}
 use Rattle.paper.specs.Entries.{valueAt, fieldsAt, entriesOf, itemsOf}
 use Rattle.paper.specs.Rules.{domainsAt, identifiersAt}
@@ -17,7 +18,6 @@ pub data Element : Type 0 where
   all : Element
   fn : ℕ → Element
 
--- a context: pattern, sort of uid, sort of gid
 pub record Context : Type 0 where
   pub pattern : List Element
   pub uid : Sort
@@ -28,7 +28,6 @@ pub data Grant : Type 0 where
   every : Grant
   these : List Bool → Grant
 
--- an access descriptor
 pub record Descriptor : Type 0 where
   pub context : Context
   pub objects : Grant
@@ -42,7 +41,6 @@ pub record Entry : Type 0 where
   pub reads : List Descriptor
   pub writes : List Descriptor
 
--- the whole of it
 pub record Policy : Type 0 where
   pub objectDomains : ℕ
   pub subjectDomains : ℕ
@@ -50,6 +48,11 @@ pub record Policy : Type 0 where
   pub objects : List ℕ
   pub functions : List ℕ
   pub entries : List Entry
+
+-- no entry at all: what stands where a list of entries has none
+abbrev pub noEntry : Entry
+noEntry =
+    record { context = record { pattern = []; uid = anyone; gid = anyone }; subject = 0; calls = every; returns = every; reads = []; writes = [] }
 
 -- "call_context holds function identifiers or `all`"
 unfoldable pub elementOf : List (List ℕ) → List ℕ → Element

@@ -18,12 +18,12 @@ use Rattle.paper.specs.declared.Report.{Report}
 use Rattle.paper.specs.declared.Report.the-variants.{Unreported}
 use Rattle.paper.specs.declared.Map.{Map}
 use Rattle.paper.specs.Common.{within}
-use Rattle.paper.specs.Answers.{fillingNumber, readingNumber}
-use Rattle.paper.specs.Text.{badByteLine}
-use Rattle.paper.specs.Page.{Page, fields, fault, pageOf}
+use Rattle.paper.specs.Limits.{textBytes, tableWords, mostFrames, witnessWords}
+use Rattle.paper.specs.Text.{noLine, badByteLine}
+use Rattle.paper.specs.Page.{Outcome, fields, fault, pageOf}
 use Rattle.paper.specs.Rules.{ruled, unlessLine}
 use Rattle.paper.specs.Policy.{Policy, policyOf}
-use Rattle.paper.specs.Table.{tableWords, wordsOf, policyIn, wellFormed}
+use Rattle.paper.specs.Table.{wordsOf, policyIn, wellFormed}
 use Rattle.paper.specs.Match.{Moment}
 use Rattle.paper.specs.Verdict.{verdictOf}
 use Rattle.paper.specs.Overlap.{Says}
@@ -32,63 +32,67 @@ use Rattle.paper.specs.Lookup.{Stretch, nameIn}
 
 -- ---- a text: its fields, or its refusal, 2 to 11
 
--- "Text is at most 65,536 bytes"
-abbrev pub textBytes : ℕ
-textBytes = 65536
+-- "Reader order: 1, 2, 3, then the first line with 4, 9 or 5 (in that order on one line)"
+unfoldable pub textPage : List ℕ → Outcome
+textPage t = cond (ltb textBytes (length t)) (fault 2 noLine) (unlessLine 3 (badByteLine 1 t) (pageOf t))
 
--- a page in order is held to the rules
-abbrev pub pageRuled : Page → Page
-pageRuled (fields fs) = ruled fs
-pageRuled (fault number line) = fault number line
+-- fields are held to the rules
+abbrev pub heldToRules : Outcome → Outcome
+heldToRules (fields fs) = ruled fs
+heldToRules (fault number line) = fault number line
 
--- "Reader order: 1, 2, 3, then the first line with 4, 9 or 5 .., then 6, 7, 8, 10, 11"
-unfoldable pub fileOf : List ℕ → Page
-fileOf t = cond (ltb textBytes (length t)) (fault 2 0) (unlessLine 3 (badByteLine 1 t) (pageRuled (pageOf t)))
+-- "then 6, 7, 8, 10, 11"
+unfoldable pub fileOf : List ℕ → Outcome
+fileOf t = heldToRules (textPage t)
 
 -- ---- the reader: a text, and a table
 
 -- the reader accepts fields, and refuses with number and line
-abbrev pub reading : Page → Reading
-reading (fields fs) = Accepted
-reading (fault number line) = Unread number line
+abbrev pub readingOf : Outcome → Reading
+readingOf (fields fs) = Accepted
+readingOf (fault number line) = Unread number line
 
 -- 1: "table under 16,384 words"
 unfoldable pub readAnswer : List ℕ → List ℕ → Reading
-readAnswer t table = cond (ltb (length table) tableWords) (Unread 1 0) (reading (fileOf t))
+readAnswer t table = cond (ltb (length table) tableWords) (Unread 1 noLine) (readingOf (fileOf t))
 
 -- "first 16,384 words zero (2 to 11)", or the words of the policy
-abbrev pub wordsRead : Page → List ℕ
+abbrev pub wordsRead : Outcome → List ℕ
 wordsRead (fields fs) = wordsOf (policyOf fs)
 wordsRead (fault number line) = replicate tableWords 0
 
--- "Words past 16,384 .. never change"; 1: "nothing changed"
+-- 1: "nothing changed"; "Words past 16,384 .. never change"
 unfoldable pub readLeaves : List ℕ → List ℕ → List ℕ
-readLeaves t table = cond (eqb (readingNumber (readAnswer t table)) 1) table (wordsRead (fileOf t) ++ drop tableWords table)
+readLeaves t table = cond (ltb (length table) tableWords) table (wordsRead (fileOf t) ++ drop tableWords table)
 
 -- ---- the filler: a text, and the output
 
--- "The filler gives 2 to 11 as the reader does, then 31, then 30"
-unfoldable pub fillingOf : ℕ → ℕ → Filling
-fillingOf room size = cond (ltb textBytes size) (Unfilled 31 0) (cond (ltb room size) (Unfilled 30 0) (Written size))
+-- 31: "filled text over 65,536 bytes"; 30: "output shorter than the filled text"
+unfoldable pub writtenIn : ℕ → ℕ → Filling
+writtenIn room size = cond (ltb textBytes size) (Unfilled 31 noLine) (cond (ltb room size) (Unfilled 30 noLine) (Written size))
 
--- "The filler gives 2 to 11 as the reader does"
-abbrev pub filling : ℕ → Page → Filling
-filling room (fields fs) = fillingOf room (length (filledText fs))
-filling room (fault number line) = Unfilled number line
+-- "The filler gives 2 to 11 as the reader does, then 31, then 30"
+abbrev pub fillingOf : ℕ → Outcome → Filling
+fillingOf room (fields fs) = writtenIn room (length (filledText fs))
+fillingOf room (fault number line) = Unfilled number line
 
 -- the filler's whole answer
 unfoldable pub fillAnswer : List ℕ → List ℕ → Filling
-fillAnswer t out = filling (length out) (fileOf t)
+fillAnswer t out = fillingOf (length out) (fileOf t)
 
 -- the filled text of an accepted file
-abbrev pub textFilled : Page → List ℕ
+abbrev pub textFilled : Outcome → List ℕ
 textFilled (fields fs) = filledText fs
 textFilled (fault number line) = []
 
--- "on refusal its output is untouched"; "bytes past the filled text never change"
+-- "bytes past the filled text never change"; "on refusal its output is untouched"
+abbrev pub outputLeft : List ℕ → List ℕ → Filling → List ℕ
+outputLeft filled out (Written size) = filled ++ drop size out
+outputLeft filled out (Unfilled number line) = out
+
+-- what the filler leaves in its output
 unfoldable pub fillLeaves : List ℕ → List ℕ → List ℕ
-fillLeaves t out =
-    cond (eqb (fillingNumber (fillAnswer t out)) 0) (textFilled (fileOf t) ++ drop (length (textFilled (fileOf t))) out) out
+fillLeaves t out = outputLeft (textFilled (fileOf t)) out (fillAnswer t out)
 
 -- ---- the judge: a table, and an event. It changes nothing
 
@@ -102,8 +106,8 @@ accessFor operation target =
 -- 21: "stack of 0 or over 64 frames"; 22: "allocation stack over 64 frames"; 23: "operation not 1 to 4"
 unfoldable pub judgeEvent : Policy → ℕ → ℕ → Moment → Moment → Verdict
 judgeEvent p operation target m allocation =
-    cond (not (within 1 64 (length (m .stack)))) (Unjudged 21)
-    (cond (ltb 64 (length (allocation .stack))) (Unjudged 22)
+    cond (not (within 1 mostFrames (length (m .stack)))) (Unjudged 21)
+    (cond (ltb mostFrames (length (allocation .stack))) (Unjudged 22)
     (cond (not (within 1 4 operation)) (Unjudged 23)
     (verdictOf p (accessFor operation target) m allocation)))
 
@@ -116,7 +120,7 @@ judgeAnswer table operation target m allocation =
 
 -- "the report's [order is] 20, 40"; 40: "witness room under 32 words"
 unfoldable pub reportRefusal : List ℕ → List ℕ → ℕ
-reportRefusal table witness = cond (wellFormed table) (cond (ltb (length witness) 32) 40 0) 20
+reportRefusal table witness = cond (wellFormed table) (cond (ltb (length witness) witnessWords) 40 0) 20
 
 -- what the report says, unless it is refused: "nothing changed (20 to 40)"
 abbrev pub ReportedUnless : ℕ → Policy → List ℕ → List ℕ → Report → Type 0
@@ -131,4 +135,4 @@ Reported table old new r = ReportedUnless (reportRefusal table old) (policyIn ta
 
 -- the stretch that name lookup answers with
 unfoldable pub lookupAnswer : List ℕ → Map → ℕ → Stretch
-lookupAnswer t map d = nameIn t map d (fileOf t)
+lookupAnswer t which d = nameIn which d (fileOf t)

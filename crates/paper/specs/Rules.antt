@@ -1,36 +1,39 @@
 -- The rules over the whole file: 6, 7, 8, 10, 11, each with "the smallest [line] at fault" (document 01, "Numbers that come back").
--- A rule answers the line, or 0 where it holds.
+-- A rule answers the line at fault, or `noLine` where it holds.
 use Prim.Native.Nat.{ℕ, zero, suc, _+_}
 use mathlib.Core.List.{List, [], _∷_, _++_, map, flatMap}
 use mathlib.Core.Bool.{Bool, false, cond, not, _&&_, _||_}
 use lib.Dec.{eqb, ltb}
 use lib.ListN.{length}
 use Rattle.paper.specs.Common.{bytes, allOf, anyOf, is, same, among}
-use Rattle.paper.specs.Scalars.{isVariable, Sort, anyone, variable, root, user, sortOf}
+use Rattle.paper.specs.Limits.{mostDomains, mostMembers, mostEntries, mostElements, mostDescriptors}
+use Rattle.paper.specs.Text.{noLine}
+use Rattle.paper.specs.Scalars.{isVariable, sortOf, sortNumber}
 use Rattle.paper.specs.Lists.{elements}
-use Rattle.paper.specs.Listing.{objectName, objectMembers, subjectName, subjectMembers, principal, subjectOfEntry, executionContext, canCall, canReturn, canRead, canWrite, callContextIn, uidIn, gidIn, objectsIn, objectContextIn}
-use Rattle.paper.specs.Page.{Field, Page, fields, fault}
+use Rattle.paper.specs.Listing.{objectName, objectMembers, subjectName, subjectMembers, principal, subjectOfEntry, executionContext, canCall, canReturn, canRead, canWrite}
+use Rattle.paper.specs.Listing.{callContextIn, uidIn, gidIn, objectsIn, objectContextIn}
+use Rattle.paper.specs.Page.{Field, Outcome, fields, fault}
 use Rattle.paper.specs.Entries.{isAt, isAtOne, callContexts, valueAt, fieldsAt, entriesOf, itemsOf, lineOfEntry}
 
--- the smaller of two lines, 0 being none
+-- the smaller of two lines, where there are two
 unfoldable pub earlier : ℕ → ℕ → ℕ
-earlier a b = cond (eqb a 0) b (cond (eqb b 0 || ltb a b) a b)
+earlier a b = cond (eqb a noLine) b (cond (eqb b noLine || ltb a b) a b)
 
 -- the smallest of several lines
 unfoldable pub earliest : List ℕ → ℕ
-earliest [] = 0
+earliest [] = noLine
 earliest (a ∷ lines) = earlier a (earliest lines)
 
 -- the line of the first field with a fault
 unfoldable pub firstWith : (Field → Bool) → List Field → ℕ
-firstWith test [] = 0
+firstWith test [] = noLine
 firstWith test (f ∷ fs) = cond (test f) (f .line) (firstWith test fs)
 
 -- ---- 6: "a count over its limit"; "for 6 the line that passes the limit"
 
 -- the line of the first thing with which the sum of the weights, k so far, passes the limit
 unfoldable pub passing : {A : Type 0} → (A → ℕ) → (A → ℕ) → ℕ → ℕ → List A → ℕ
-passing line weight limit k [] = 0
+passing line weight limit k [] = noLine
 passing line weight limit k (x ∷ xs) = cond (ltb limit (k + weight x)) (line x) (passing line weight limit (k + weight x) xs)
 
 -- one for each field of a place
@@ -51,19 +54,19 @@ descriptorsIn entry = descriptorsOf canRead entry + descriptorsOf canWrite entry
 
 -- "16 elements in a `call_context`"
 unfoldable pub longPattern : Field → Bool
-longPattern f = isAtOne callContexts f && ltb 16 (length (elements (f .value)))
+longPattern f = isAtOne callContexts f && ltb mostElements (length (elements (f .value)))
 
 -- "At most: 128 domains in each map, 1,024 objects, 1,024 subjects, 128 entries, 16 elements in a `call_context`, 256 access descriptors in the file."
 unfoldable pub overLimit : List Field → ℕ
 overLimit fs =
     earliest
-    (passing (λ f. f .line) (oneAt objectName) 128 0 fs
-    ∷ passing (λ f. f .line) (oneAt subjectName) 128 0 fs
-    ∷ passing (λ f. f .line) (membersAt objectMembers) 1024 0 fs
-    ∷ passing (λ f. f .line) (membersAt subjectMembers) 1024 0 fs
-    ∷ passing (λ f. f .line) (oneAt principal) 128 0 fs
+    (passing (λ f. f .line) (oneAt objectName) mostDomains 0 fs
+    ∷ passing (λ f. f .line) (oneAt subjectName) mostDomains 0 fs
+    ∷ passing (λ f. f .line) (membersAt objectMembers) mostMembers 0 fs
+    ∷ passing (λ f. f .line) (membersAt subjectMembers) mostMembers 0 fs
+    ∷ passing (λ f. f .line) (oneAt principal) mostEntries 0 fs
     ∷ firstWith longPattern fs
-    ∷ passing lineOfEntry descriptorsIn 256 0 (entriesOf fs)
+    ∷ passing lineOfEntry descriptorsIn mostDescriptors 0 (entriesOf fs)
     ∷ [])
 
 -- ---- 7: "domain name (over both maps), identifier of one map, or name in one list twice"; "for 7 the later one"
@@ -75,7 +78,7 @@ repeats seen (x ∷ xs) = among x seen || repeats (x ∷ seen) xs
 
 -- the line of the first field that names again what was named before it or in it
 unfoldable pub repeated : (Field → List (List ℕ)) → List (List ℕ) → List Field → ℕ
-repeated named seen [] = 0
+repeated named seen [] = noLine
 repeated named seen (f ∷ fs) = cond (repeats seen (named f)) (f .line) (repeated named (named f ++ seen) fs)
 
 -- "domain name (over both maps)"
@@ -155,14 +158,7 @@ unboundVariable fs = earliest (map (λ entry. firstWith (isUnbound entry) entry)
 
 -- ---- 11: "two entries with the same principal"; "the later entry's `principal` line"
 
--- "two variables are the same sort"
-unfoldable pub sortNumber : Sort → ℕ
-sortNumber anyone = 0
-sortNumber variable = 1
-sortNumber root = 2
-sortNumber user = 3
-
--- "uid and gid are of the same sort"
+-- "uid and gid are of the same sort (two variables are the same sort)"
 unfoldable pub sameSort : List ℕ → List ℕ → Bool
 sameSort a b = eqb (sortNumber (sortOf a)) (sortNumber (sortOf b))
 
@@ -176,7 +172,7 @@ samePrincipal a b =
 
 -- the line of the first entry with the principal of one before it
 unfoldable pub twinAfter : List (List Field) → List (List Field) → ℕ
-twinAfter seen [] = 0
+twinAfter seen [] = noLine
 twinAfter seen (e ∷ es) = cond (anyOf (samePrincipal e) seen) (lineOfEntry e) (twinAfter (e ∷ seen) es)
 
 -- 11 over the whole file
@@ -185,13 +181,13 @@ twinPrincipal fs = twinAfter [] (entriesOf fs)
 
 -- ---- "then 6, 7, 8, 10, 11, each over the whole file"
 
--- the fields, unless the rule with this number names a line
-unfoldable pub unlessLine : ℕ → ℕ → Page → Page
-unlessLine number zero page = page
-unlessLine number (suc line) page = fault number (suc line)
+-- what else becomes of a text, unless the rule with this number names a line
+unfoldable pub unlessLine : ℕ → ℕ → Outcome → Outcome
+unlessLine number zero outcome = outcome
+unlessLine number (suc line) outcome = fault number (suc line)
 
 -- the rules in their order, each over the whole file
-unfoldable pub ruled : List Field → Page
+unfoldable pub ruled : List Field → Outcome
 ruled fs =
     unlessLine 6 (overLimit fs)
     (unlessLine 7 (namedTwice fs)

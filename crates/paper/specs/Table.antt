@@ -1,42 +1,188 @@
 -- The table: where each word stands (docs/TABLE.md), the words of a policy, the policy of words, and what "well formed" is
 -- (document 01, "Numbers that come back": "The table is a lent stretch of sixteen-bit words").
 use Prim.Native.Nat.{ℕ, zero, suc, _+_, _*_, _-_, _/_, _%_, _^_, min}
+use mathlib.Core.Path.{_≡_, refl}
 use mathlib.Core.List.{List, [], _∷_, _++_, map, flatMap}
 use mathlib.Core.Bool.{Bool, cond, not, _&&_, _||_}
 use lib.Dec.{eqb, ltb, leb}
 use lib.ListN.{length, getD, take, drop, set, replicate}
 use Rattle.paper.specs.Common.{within, upTo, countUp, same}
-use Rattle.paper.specs.Scalars.{Sort, anyone, variable, root, user}
-use Rattle.paper.specs.Rules.{sortNumber}
+use Rattle.paper.specs.Limits.{mostDomains, mostMembers, mostEntries, mostElements, mostDescriptors, tableWords}
+use Rattle.paper.specs.Scalars.{Sort, anyone, variable, root, user, sortNumber}
 use Rattle.paper.specs.Policy.{Element, all, fn, Context, Grant, every, these, Descriptor, Entry, Policy}
 
--- "with a mark that isn't zero"
+-- ---- where each word stands
+
+-- in the head: "a mark that isn't zero" first, then the counts
+abbrev pub markAt : ℕ
+markAt = 0
+
 abbrev pub mark : ℕ
 mark = 17492
 
--- "at least 16,384 words"
-abbrev pub tableWords : ℕ
-tableWords = 16384
+abbrev pub objectDomainCountAt : ℕ
+objectDomainCountAt = 1
 
--- where the objects' domains begin
+abbrev pub subjectDomainCountAt : ℕ
+subjectDomainCountAt = 2
+
+abbrev pub objectCountAt : ℕ
+objectCountAt = 3
+
+abbrev pub functionCountAt : ℕ
+functionCountAt = 4
+
+abbrev pub entryCountAt : ℕ
+entryCountAt = 5
+
+abbrev pub headSpareAt : ℕ
+headSpareAt = 6
+
+abbrev pub headSpareSize : ℕ
+headSpareSize = 26
+
+abbrev pub headSize : ℕ
+headSize = 32
+
+-- in a context: the number of elements first; a sort stands as its number
+abbrev pub uidAt : ℕ
+uidAt = 1
+
+abbrev pub gidAt : ℕ
+gidAt = 2
+
+abbrev pub contextSpareAt : ℕ
+contextSpareAt = 3
+
+abbrev pub elementsAt : ℕ
+elementsAt = 4
+
+abbrev pub contextSize : ℕ
+contextSize = 20
+
+-- the sorts of a uid are `all`, a variable, `root` and `user`; a gid has the first two
+abbrev pub uidSorts : ℕ
+uidSorts = 4
+
+abbrev pub gidSorts : ℕ
+gidSorts = 2
+
+abbrev pub variableWord : ℕ
+variableWord = 1
+
+-- in a grant: whether it grants every listed domain, then the set of those that it grants, one to a bit of its "sixteen-bit words"
+abbrev pub everyWord : ℕ
+everyWord = 1
+
+abbrev pub setAt : ℕ
+setAt = 1
+
+abbrev pub wordBits : ℕ
+wordBits = 16
+
+abbrev pub setSize : ℕ
+setSize = 8
+
+abbrev pub grantSize : ℕ
+grantSize = 9
+
+-- in an entry: its context, then its subject; together they are its principal
+abbrev pub subjectAt : ℕ
+subjectAt = 20
+
+abbrev pub readsAt : ℕ
+readsAt = 21
+
+abbrev pub writesAt : ℕ
+writesAt = 22
+
+abbrev pub entrySpareAt : ℕ
+entrySpareAt = 23
+
+abbrev pub callsAt : ℕ
+callsAt = 24
+
+abbrev pub returnsAt : ℕ
+returnsAt = 33
+
+abbrev pub entryTailAt : ℕ
+entryTailAt = 42
+
+abbrev pub entryTailSize : ℕ
+entryTailSize = 2
+
+abbrev pub principalSize : ℕ
+principalSize = 21
+
+abbrev pub entrySize : ℕ
+entrySize = 44
+
+-- in a descriptor: its context, then the grant of its objects
+abbrev pub grantAt : ℕ
+grantAt = 20
+
+abbrev pub descriptorTailAt : ℕ
+descriptorTailAt = 29
+
+abbrev pub descriptorTailSize : ℕ
+descriptorTailSize = 3
+
+abbrev pub descriptorSize : ℕ
+descriptorSize = 32
+
+-- in the table: the head, the objects' domains, the functions' domains, the entries, the descriptors; nothing after them
 abbrev pub objectsAt : ℕ
 objectsAt = 32
 
--- where the functions' domains begin
 abbrev pub functionsAt : ℕ
 functionsAt = 1056
 
--- entry k, and descriptor d
+abbrev pub entriesAt : ℕ
+entriesAt = 2080
+
+abbrev pub entriesSize : ℕ
+entriesSize = 5632
+
+abbrev pub descriptorsAt : ℕ
+descriptorsAt = 7712
+
+abbrev pub descriptorsSize : ℕ
+descriptorsSize = 8672
+
+abbrev pub spareAt : ℕ
+spareAt = 15904
+
+abbrev pub spareSize : ℕ
+spareSize = 480
+
+-- where entry k stands
 abbrev pub entryAt : ℕ → ℕ
-entryAt k = 2080 + 44 * k
+entryAt k = entriesAt + entrySize * k
 
 -- where descriptor d stands
 abbrev pub descriptorAt : ℕ → ℕ
-descriptorAt d = 7712 + 32 * d
+descriptorAt d = descriptorsAt + descriptorSize * d
 
--- where nothing stands any more
-abbrev pub spareAt : ℕ
-spareAt = 15904
+-- each block begins where the one before it ends
+pub blocks-follow :
+    (headSpareAt + headSpareSize ≡ headSize)
+    × (elementsAt + mostElements ≡ contextSize)
+    × (wordBits * setSize ≡ mostDomains)
+    × (setAt + setSize ≡ grantSize)
+    × (contextSize + 1 ≡ principalSize)
+    × (callsAt + grantSize ≡ returnsAt)
+    × (returnsAt + grantSize ≡ entryTailAt)
+    × (entryTailAt + entryTailSize ≡ entrySize)
+    × (grantAt + grantSize ≡ descriptorTailAt)
+    × (descriptorTailAt + descriptorTailSize ≡ descriptorSize)
+    × (objectsAt + mostMembers ≡ functionsAt)
+    × (functionsAt + mostMembers ≡ entriesAt)
+    × (entryAt mostEntries ≡ descriptorsAt)
+    × (entriesAt + entriesSize ≡ descriptorsAt)
+    × (descriptorAt mostDescriptors ≡ spareAt)
+    × (spareAt + spareSize ≡ tableWords)
+    × (descriptorsAt + descriptorsSize ≡ tableWords)
+blocks-follow = (refl, refl, refl, refl, refl, refl, refl, refl, refl, refl, refl, refl, refl, refl, refl, refl, refl)
 
 -- ---- the words of a policy
 
@@ -49,44 +195,40 @@ unfoldable pub elementWord : Element → ℕ
 elementWord all = 0
 elementWord (fn f) = f + 1
 
--- a context, 20 words
+-- contexts, sets, grants, entries and descriptors in the order of their layout
 unfoldable pub contextWords : Context → List ℕ
 contextWords c =
-    length (c .pattern) ∷ sortNumber (c .uid) ∷ sortNumber (c .gid) ∷ 0 ∷ padded 16 (map elementWord (c .pattern))
+    length (c .pattern) ∷ sortNumber (c .uid) ∷ sortNumber (c .gid) ∷ 0 ∷ padded mostElements (map elementWord (c .pattern))
 
--- up to sixteen domains as the bits of a word, the first as the lowest
+-- some domains as the bits of a word, the first as the lowest
 unfoldable pub bitsWord : List Bool → ℕ
 bitsWord [] = 0
 bitsWord (b ∷ bs) = cond b 1 0 + 2 * bitsWord bs
 
--- a set of up to 128 domains, eight words
 unfoldable pub setWords : List Bool → List ℕ
-setWords domains = map (λ j. bitsWord (take 16 (drop (16 * j) domains))) (countUp 0 8)
+setWords domains = map (λ j. bitsWord (take wordBits (drop (wordBits * j) domains))) (countUp 0 setSize)
 
--- a grant, nine words
 unfoldable pub grantWords : Grant → List ℕ
-grantWords every = padded 9 (1 ∷ [])
+grantWords every = padded grantSize (everyWord ∷ [])
 grantWords (these domains) = 0 ∷ setWords domains
 
--- an entry, 44 words
 unfoldable pub entryWords : Entry → List ℕ
 entryWords e =
-    padded 44
+    padded entrySize
     (contextWords (e .context)
     ++ (e .subject ∷ length (e .reads) ∷ length (e .writes) ∷ 0 ∷ (grantWords (e .calls) ++ grantWords (e .returns))))
 
--- a descriptor, 32 words
 unfoldable pub descriptorWords : Descriptor → List ℕ
-descriptorWords d = padded 32 (contextWords (d .context) ++ grantWords (d .objects))
+descriptorWords d = padded descriptorSize (contextWords (d .context) ++ grantWords (d .objects))
 
--- the 16,384 words: head, objects, functions, entries, descriptors
+-- head, objects, functions, entries, descriptors
 unfoldable pub wordsOf : Policy → List ℕ
 wordsOf p =
-    padded 32 (mark ∷ p .objectDomains ∷ p .subjectDomains ∷ length (p .objects) ∷ length (p .functions) ∷ length (p .entries) ∷ [])
-    ++ (padded 1024 (p .objects)
-    ++ (padded 1024 (p .functions)
-    ++ (padded 5632 (flatMap entryWords (p .entries))
-    ++ padded 8672 (flatMap (λ e. flatMap descriptorWords (e .reads ++ e .writes)) (p .entries)))))
+    padded headSize (mark ∷ p .objectDomains ∷ p .subjectDomains ∷ length (p .objects) ∷ length (p .functions) ∷ length (p .entries) ∷ [])
+    ++ (padded mostMembers (p .objects)
+    ++ (padded mostMembers (p .functions)
+    ++ (padded entriesSize (flatMap entryWords (p .entries))
+    ++ padded descriptorsSize (flatMap (λ e. flatMap descriptorWords (e .reads ++ e .writes)) (p .entries)))))
 
 -- ---- the policy of words
 
@@ -94,25 +236,21 @@ wordsOf p =
 abbrev pub word : List ℕ → ℕ → ℕ
 word ws at = getD ws at 0
 
--- the counts of the head: object domains
+-- the counts of the head
 abbrev pub objectDomainCount : List ℕ → ℕ
-objectDomainCount ws = word ws 1
+objectDomainCount ws = word ws objectDomainCountAt
 
--- subject domains
 abbrev pub subjectDomainCount : List ℕ → ℕ
-subjectDomainCount ws = word ws 2
+subjectDomainCount ws = word ws subjectDomainCountAt
 
--- objects
 abbrev pub objectCount : List ℕ → ℕ
-objectCount ws = word ws 3
+objectCount ws = word ws objectCountAt
 
--- functions
 abbrev pub functionCount : List ℕ → ℕ
-functionCount ws = word ws 4
+functionCount ws = word ws functionCountAt
 
--- entries
 abbrev pub entryCount : List ℕ → ℕ
-entryCount ws = word ws 5
+entryCount ws = word ws entryCountAt
 
 -- the element that a word says
 unfoldable pub elementIn : ℕ → Element
@@ -126,56 +264,68 @@ sortIn (suc zero) = variable
 sortIn (suc (suc zero)) = root
 sortIn (suc (suc (suc n))) = user
 
--- the context at a place
+-- the context at a place: how many elements its pattern has,
+abbrev pub elementCount : List ℕ → ℕ → ℕ
+elementCount ws at = word ws at
+
+-- and the words of these
+abbrev pub patternWordsIn : List ℕ → ℕ → List ℕ
+patternWordsIn ws at = take (elementCount ws at) (drop (at + elementsAt) ws)
+
 unfoldable pub contextIn : List ℕ → ℕ → Context
 contextIn ws at =
     record {
-      pattern = map elementIn (take (word ws at) (drop (at + 4) ws));
-      uid = sortIn (word ws (at + 1));
-      gid = sortIn (word ws (at + 2));
+      pattern = map elementIn (patternWordsIn ws at);
+      uid = sortIn (word ws (at + uidAt));
+      gid = sortIn (word ws (at + gidAt));
     }
 
--- domain d is bit d mod 16 of word d / 16 of a set
+-- domain d is a bit of a set
 unfoldable pub isIn : List ℕ → ℕ → Bool
-isIn domains d = eqb (word domains (d / 16) / 2 ^ (d % 16) % 2) 1
+isIn domains d = eqb (word domains (d / wordBits) / 2 ^ (d % wordBits) % 2) 1
 
 -- the set with domain d in it; a domain past the set's last word changes nothing
 unfoldable pub withDomain : List ℕ → ℕ → List ℕ
-withDomain domains d = cond (isIn domains d) domains (set domains (d / 16) (word domains (d / 16) + 2 ^ (d % 16)))
+withDomain domains d = cond (isIn domains d) domains (set domains (d / wordBits) (word domains (d / wordBits) + 2 ^ (d % wordBits)))
 
 -- a grant among so many domains
 unfoldable pub grantIn : List ℕ → ℕ → ℕ → Grant
-grantIn ws at domains = cond (eqb (word ws at) 1) every (these (map (isIn (drop (at + 1) ws)) (countUp 0 domains)))
+grantIn ws at domains = cond (eqb (word ws at) everyWord) every (these (map (isIn (drop (at + setAt) ws)) (countUp 0 domains)))
 
--- descriptor d
 unfoldable pub descriptorIn : List ℕ → ℕ → Descriptor
 descriptorIn ws d =
-    record { context = contextIn ws (descriptorAt d); objects = grantIn ws (descriptorAt d + 20) (objectDomainCount ws) }
+    record { context = contextIn ws (descriptorAt d); objects = grantIn ws (descriptorAt d + grantAt) (objectDomainCount ws) }
 
--- how many reads entry k has
+-- how many descriptors entry k has for reads, and for writes
 abbrev pub readCount : List ℕ → ℕ → ℕ
-readCount ws k = word ws (entryAt k + 21)
+readCount ws k = word ws (entryAt k + readsAt)
 
--- how many writes entry k has
 abbrev pub writeCount : List ℕ → ℕ → ℕ
-writeCount ws k = word ws (entryAt k + 22)
+writeCount ws k = word ws (entryAt k + writesAt)
 
 -- how many descriptors the entries before entry k have: its own begin there
 unfoldable pub firstDescriptor : List ℕ → ℕ → ℕ
 firstDescriptor ws zero = 0
 firstDescriptor ws (suc k) = firstDescriptor ws k + readCount ws k + writeCount ws k
 
--- entry k
 unfoldable pub entryIn : List ℕ → ℕ → Entry
 entryIn ws k =
     record {
       context = contextIn ws (entryAt k);
-      subject = word ws (entryAt k + 20);
-      calls = grantIn ws (entryAt k + 24) (subjectDomainCount ws);
-      returns = grantIn ws (entryAt k + 33) (subjectDomainCount ws);
+      subject = word ws (entryAt k + subjectAt);
+      calls = grantIn ws (entryAt k + callsAt) (subjectDomainCount ws);
+      returns = grantIn ws (entryAt k + returnsAt) (subjectDomainCount ws);
       reads = map (descriptorIn ws) (countUp (firstDescriptor ws k) (readCount ws k));
       writes = map (descriptorIn ws) (countUp (firstDescriptor ws k + readCount ws k) (writeCount ws k));
     }
+
+-- the domain of each object
+abbrev pub objectDomainsIn : List ℕ → List ℕ
+objectDomainsIn ws = take (objectCount ws) (drop objectsAt ws)
+
+-- and of each function
+abbrev pub functionDomainsIn : List ℕ → List ℕ
+functionDomainsIn ws = take (functionCount ws) (drop functionsAt ws)
 
 -- the policy that the words hold
 unfoldable pub policyIn : List ℕ → Policy
@@ -183,8 +333,8 @@ policyIn ws =
     record {
       objectDomains = objectDomainCount ws;
       subjectDomains = subjectDomainCount ws;
-      objects = take (objectCount ws) (drop objectsAt ws);
-      functions = take (functionCount ws) (drop functionsAt ws);
+      objects = objectDomainsIn ws;
+      functions = functionDomainsIn ws;
       entries = map (entryIn ws) (countUp 0 (entryCount ws));
     }
 
@@ -202,86 +352,82 @@ zeros ws at n = upTo (λ i. eqb (word ws (at + i)) 0) n
 -- "counts within the limits"
 unfoldable pub countsFit : List ℕ → Bool
 countsFit ws =
-    leb (objectDomainCount ws) 128
-    && leb (subjectDomainCount ws) 128
-    && leb (objectCount ws) 1024
-    && leb (functionCount ws) 1024
-    && leb (entryCount ws) 128
-    && leb (descriptorCount ws) 256
+    leb (objectDomainCount ws) mostDomains
+    && leb (subjectDomainCount ws) mostDomains
+    && leb (objectCount ws) mostMembers
+    && leb (functionCount ws) mostMembers
+    && leb (entryCount ws) mostEntries
+    && leb (descriptorCount ws) mostDescriptors
 
--- of 1,024 words so many are domains below their count, and the others are unused
+-- of a block of members so many are domains below their count, and the others are unused
 unfoldable pub membersFit : List ℕ → ℕ → ℕ → ℕ → Bool
 membersFit ws at members domains =
-    upTo (λ i. cond (ltb i members) (ltb (word ws (at + i)) domains) (eqb (word ws (at + i)) 0)) 1024
+    upTo (λ i. cond (ltb i members) (ltb (word ws (at + i)) domains) (eqb (word ws (at + i)) 0)) mostMembers
 
--- "patterns 1 to 16"; an element is `all` or a function below their count; a uid has four sorts and a gid two
+-- "patterns 1 to 16"; an element is `all` or a function below their count
 unfoldable pub contextFits : List ℕ → ℕ → Bool
 contextFits ws at =
-    within 1 16 (word ws at)
-    && ltb (word ws (at + 1)) 4
-    && ltb (word ws (at + 2)) 2
-    && eqb (word ws (at + 3)) 0
-    && upTo (λ i. leb (word ws (at + 4 + i)) (cond (ltb i (word ws at)) (functionCount ws) 0)) 16
+    within 1 mostElements (elementCount ws at)
+    && ltb (word ws (at + uidAt)) uidSorts
+    && ltb (word ws (at + gidAt)) gidSorts
+    && eqb (word ws (at + contextSpareAt)) 0
+    && upTo (λ i. leb (word ws (at + elementsAt + i)) (cond (ltb i (elementCount ws at)) (functionCount ws) 0)) mostElements
 
--- `all` with no set, or a set with no bit at or past the count: of word j of it, bits below the count less 16 j are used
+-- `all` with no set, or a set with no bit at or past the count: of word j of it, bits below the count less those of the words before it are used
 unfoldable pub grantFits : List ℕ → ℕ → ℕ → Bool
 grantFits ws at domains =
-    leb (word ws at) 1
-    && upTo (λ j. ltb (word ws (at + 1 + j)) (2 ^ cond (eqb (word ws at) 1) 0 (min 16 (domains - 16 * j)))) 8
+    leb (word ws at) everyWord
+    && upTo (λ j. ltb (word ws (at + setAt + j)) (2 ^ cond (eqb (word ws at) everyWord) 0 (min wordBits (domains - wordBits * j)))) setSize
 
 -- an entry at a place: its context, its subject "below its count", its grants, its unused words
 unfoldable pub entryFits : List ℕ → ℕ → Bool
 entryFits ws at =
     contextFits ws at
-    && ltb (word ws (at + 20)) (subjectDomainCount ws)
-    && eqb (word ws (at + 23)) 0
-    && grantFits ws (at + 24) (subjectDomainCount ws)
-    && grantFits ws (at + 33) (subjectDomainCount ws)
-    && zeros ws (at + 42) 2
+    && ltb (word ws (at + subjectAt)) (subjectDomainCount ws)
+    && eqb (word ws (at + entrySpareAt)) 0
+    && grantFits ws (at + callsAt) (subjectDomainCount ws)
+    && grantFits ws (at + returnsAt) (subjectDomainCount ws)
+    && zeros ws (at + entryTailAt) entryTailSize
 
--- a descriptor at a place
 unfoldable pub descriptorFits : List ℕ → ℕ → Bool
-descriptorFits ws at = contextFits ws at && grantFits ws (at + 20) (objectDomainCount ws) && zeros ws (at + 29) 3
+descriptorFits ws at = contextFits ws at && grantFits ws (at + grantAt) (objectDomainCount ws) && zeros ws (at + descriptorTailAt) descriptorTailSize
 
--- every entry, and unused blocks zero
+-- "zeros in unused words": in the blocks of entries that are not there as well
 unfoldable pub entriesFit : List ℕ → Bool
-entriesFit ws = upTo (λ k. cond (ltb k (entryCount ws)) (entryFits ws (entryAt k)) (zeros ws (entryAt k) 44)) 128
+entriesFit ws = upTo (λ k. cond (ltb k (entryCount ws)) (entryFits ws (entryAt k)) (zeros ws (entryAt k) entrySize)) mostEntries
 
--- every descriptor, and unused blocks zero
+-- the same of the descriptors
 unfoldable pub descriptorsFit : List ℕ → Bool
 descriptorsFit ws =
-    upTo (λ d. cond (ltb d (descriptorCount ws)) (descriptorFits ws (descriptorAt d)) (zeros ws (descriptorAt d) 32)) 256
+    upTo (λ d. cond (ltb d (descriptorCount ws)) (descriptorFits ws (descriptorAt d)) (zeros ws (descriptorAt d) descriptorSize)) mostDescriptors
 
--- "no two entries with one principal": the first 21 words of an entry are its context and subject
+-- "no two entries with one principal": its words are the first of the entry
 unfoldable pub onePrincipal : List ℕ → ℕ → ℕ → Bool
-onePrincipal ws j k = same (take 21 (drop (entryAt j) ws)) (take 21 (drop (entryAt k) ws))
+onePrincipal ws j k = same (take principalSize (drop (entryAt j) ws)) (take principalSize (drop (entryAt k) ws))
 
--- no two entries
 unfoldable pub principalsDiffer : List ℕ → Bool
 principalsDiffer ws = upTo (λ k. upTo (λ j. not (onePrincipal ws j k)) k) (entryCount ws)
 
 -- "object variables bound as 10 asks": a variable in a descriptor's context has one at the same key of its entry
 unfoldable pub boundBy : List ℕ → ℕ → ℕ → Bool
 boundBy ws entry at =
-    (not (eqb (word ws (at + 1)) 1) || eqb (word ws (entry + 1)) 1)
-    && (not (eqb (word ws (at + 2)) 1) || eqb (word ws (entry + 2)) 1)
+    (not (eqb (word ws (at + uidAt)) variableWord) || eqb (word ws (entry + uidAt)) variableWord)
+    && (not (eqb (word ws (at + gidAt)) variableWord) || eqb (word ws (entry + gidAt)) variableWord)
 
--- every descriptor of every entry
 unfoldable pub variablesBound : List ℕ → Bool
 variablesBound ws =
     upTo (λ k. upTo (λ i. boundBy ws (entryAt k) (descriptorAt (firstDescriptor ws k + i))) (readCount ws k + writeCount ws k)) (entryCount ws)
 
--- all of it
 unfoldable pub wellFormed : List ℕ → Bool
 wellFormed ws =
     leb tableWords (length ws)
-    && eqb (word ws 0) mark
+    && eqb (word ws markAt) mark
     && countsFit ws
-    && zeros ws 6 26
+    && zeros ws headSpareAt headSpareSize
     && membersFit ws objectsAt (objectCount ws) (objectDomainCount ws)
     && membersFit ws functionsAt (functionCount ws) (subjectDomainCount ws)
     && entriesFit ws
     && descriptorsFit ws
-    && zeros ws spareAt 480
+    && zeros ws spareAt spareSize
     && principalsDiffer ws
     && variablesBound ws

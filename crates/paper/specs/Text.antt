@@ -1,46 +1,76 @@
 -- Bytes and lines (document 01, "The page", and refusal 3).
 use Prim.Native.Nat.{ℕ, _+_}
+use Prim.Native.Char.{code}
 use mathlib.Core.List.{List, [], _∷_}
 use mathlib.Core.Bool.{Bool, true, false, cond, _||_}
 use lib.Dec.{eqb}
 use lib.ListN.{length, getD}
 use Rattle.paper.specs.Common.{within}
 
--- LF
+-- the bytes that have a meaning of their own on a page
 abbrev pub lineFeed : ℕ
 lineFeed = 10
 
--- a space
+-- stands before a key, behind its colon and behind a comma
 abbrev pub space : ℕ
-space = 32
+space = code " "
 
--- `#`
+-- begins a comment
 abbrev pub hash : ℕ
-hash = 35
+hash = code "#"
+
+-- parts the elements of a list
+abbrev pub comma : ℕ
+comma = code ","
+
+-- begins a list
+abbrev pub openBracket : ℕ
+openBracket = code "["
+
+-- ends it
+abbrev pub closeBracket : ℕ
+closeBracket = code "]"
+
+-- parts an identifier
+abbrev pub bar : ℕ
+bar = code "|"
 
 -- 3: "byte other than LF and 0x20 to 0x7E"
 unfoldable pub mayStand : ℕ → Bool
 mayStand b = eqb b lineFeed || within 0x20 0x7E b
 
--- the line of the first byte that may not stand, 0 where there is none; n is the line that the text begins on
+-- a line number where there is no line: lines are "numbered, from 1"
+abbrev pub noLine : ℕ
+noLine = 0
+
+-- the line of the first byte that may not stand; n is the line that the text begins on
 unfoldable pub badByteLine : ℕ → List ℕ → ℕ
-badByteLine n [] = 0
+badByteLine n [] = noLine
 badByteLine n (b ∷ bs) = cond (mayStand b) (badByteLine (cond (eqb b lineFeed) (n + 1) n) bs) n
 
--- "each line ended by LF": a line, and whether one ends it
+-- "each line ended by LF": where a line starts in the text, what it holds, and whether LF ends it
 pub record Line : Type 0 where
+  pub start : ℕ
   pub text : List ℕ
   pub ended : Bool
 
--- b put in front of the first line; where there is none, a line begins that nothing ends
-unfoldable pub onLine : ℕ → List Line → List Line
-onLine b [] = record { text = b ∷ []; ended = false } ∷ []
-onLine b (l ∷ ls) = record { text = b ∷ l .text; ended = l .ended } ∷ ls
+-- b put in front of the first line, which then starts at that place; where there is none, a line begins that nothing ends
+unfoldable pub onLine : ℕ → ℕ → List Line → List Line
+onLine place b [] = record { start = place; text = b ∷ []; ended = false } ∷ []
+onLine place b (l ∷ ls) = record { start = place; text = b ∷ l .text; ended = l .ended } ∷ ls
+
+-- the lines with one byte more in front of them: LF is a line of its own that it ends
+unfoldable pub withByte : ℕ → ℕ → List Line → List Line
+withByte place b ls = cond (eqb b lineFeed) (record { start = place; text = []; ended = true } ∷ ls) (onLine place b ls)
+
+-- the lines of what stands in a text from a place on
+unfoldable pub linesFrom : ℕ → List ℕ → List Line
+linesFrom place [] = []
+linesFrom place (b ∷ bs) = withByte place b (linesFrom (place + 1) bs)
 
 -- the lines of a text, "numbered, from 1" by their place in this list
-unfoldable pub lines : List ℕ → List Line
-lines [] = []
-lines (b ∷ bs) = cond (eqb b lineFeed) (record { text = []; ended = true } ∷ lines bs) (onLine b (lines bs))
+abbrev pub lines : List ℕ → List Line
+lines t = linesFrom 0 t
 
 -- the column of what a line holds: how many spaces stand before its first other byte
 unfoldable pub column : List ℕ → ℕ

@@ -11,26 +11,35 @@ use Rattle.paper.specs.declared.Verdict.the-variants.{Inside, Granted, V
 use Rattle.paper.specs.Policy.{Entry, Policy}
 use Rattle.paper.specs.Match.{Moment, top, isListed, entryMatches, grants, someDescriptorGrants}
 
--- "Function numbers and object numbers both start at 0 and are kept apart."
+-- "unlisted code or data": a call and a return are of code, a read and a write of data
+unfoldable pub isCode : Access → Bool
+isCode (Read o) = false
+isCode (Write o) = false
+isCode (Call f) = true
+isCode (Return f) = true
+
+-- "Function numbers and object numbers both start at 0 and are kept apart.": the domains of what an access can be to
+unfoldable pub targetsOf : Policy → Access → List ℕ
+targetsOf p a = cond (isCode a) (p .functions) (p .objects)
+
+-- the target's number among these
+unfoldable pub targetNumber : Access → ℕ
+targetNumber (Read o) = o .0
+targetNumber (Write o) = o .0
+targetNumber (Call f) = f .0
+targetNumber (Return f) = f .0
+
+-- "target unlisted" is violation 2
 unfoldable pub targetListed : Policy → Access → Bool
-targetListed p (Read o) = isListed (p .objects) (o .0)
-targetListed p (Write o) = isListed (p .objects) (o .0)
-targetListed p (Call f) = isListed (p .functions) (f .0)
-targetListed p (Return f) = isListed (p .functions) (f .0)
+targetListed p a = isListed (targetsOf p a) (targetNumber a)
 
--- the domain of the target, an object's or a function's
+-- the domain that a grant has to hold
 unfoldable pub targetDomain : Policy → Access → ℕ
-targetDomain p (Read o) = getD (p .objects) (o .0) 0
-targetDomain p (Write o) = getD (p .objects) (o .0) 0
-targetDomain p (Call f) = getD (p .functions) (f .0) 0
-targetDomain p (Return f) = getD (p .functions) (f .0) 0
+targetDomain p a = getD (targetsOf p a) (targetNumber a) 0
 
--- "one domain (call, return)": the subject domain of the running function
+-- "inside one domain (call, return)": the subject domain of the running function
 unfoldable pub insideOneDomain : Policy → Access → ℕ → Bool
-insideOneDomain p (Read o) domain = false
-insideOneDomain p (Write o) domain = false
-insideOneDomain p (Call f) domain = eqb (targetDomain p (Call f)) domain
-insideOneDomain p (Return f) domain = eqb (targetDomain p (Return f)) domain
+insideOneDomain p a domain = isCode a && eqb (targetDomain p a) domain
 
 -- an entry grants the access. "For call and return no allocation data is looked at"
 unfoldable pub entryGrants : Policy → Entry → Access → Moment → Moment → Bool

@@ -1,7 +1,46 @@
-// The types of the answers that document 01 gives, and of what an event names; domain sets are functions of `Operation`.
-// The meaning stands in specs/.
+// The types that the definitions and the code share: what a field takes, what an event names, and the answers that document 01
+// gives; domain sets are functions of `Operation`. The meaning stands in specs/.
+pub mod limit;
+pub mod refusal;
+pub mod violation;
+
 ghost use mathlib.Core.Path.{_≡_};
 ghost use Rattle.paper.specs.Table.{isIn, withDomain};
+
+// What a sort of object says of a part of its identifiers.
+pub enum Need {
+    Needed,
+    Absent,
+    Free,
+}
+
+// The two kinds of identifier.
+pub enum Kind {
+    Subject,
+    Object,
+}
+
+// The scalars that a field or an element of a list can be.
+pub enum Scalar {
+    DomainName,
+    UidValue,
+    GidValue,
+    SubjectIdentifier,
+    ObjectIdentifier,
+    PatternElement,
+}
+
+// What a field takes. `SomeOf` is a list that is not `[]`.
+pub enum Value {
+    Keys,
+    NoneOrItems,
+    AllOrKeys,
+    AllNoneOrItems,
+    One(Scalar),
+    ListOf(Scalar),
+    SomeOf(Scalar),
+    ListOrAll(Scalar),
+}
 
 // A function and an object are both numbered from 0 and are kept apart.
 pub struct FunctionNumber(pub u16);

@@ -1,35 +1,50 @@
-// Judges the trials of document 01 and replays the stored cases, and writes how many answers differ from those stored.
-// What the bytes of the stored cases mean: data/README.md.
-ghost use Prim.Native.Nat.{_<_};
+// Judges the trials of document 01 and tells each verdict in words; then replays the stored cases and tells how many answers
+// differ from those stored. What the bytes of the files mean: data/README.md.
+use export::class;
 
-// So many bytes further; far past any file it stays where it is.
-fn after(at: usize, n: usize) -> usize {
-    if 1000000000 < at {
-        return at;
+// Standard output.
+const OUT: i32 = 1;
+
+// More bytes than a file has, more words than a table has.
+const FILE_BYTES: usize = 160000;
+
+const TABLE_WORDS: usize = 65536;
+
+// A stack of more frames is as good as one of so many: both are refused.
+const STACK_WORDS: usize = 128;
+
+// What the witness holds before the call, and how many words of it are lent at most.
+const UNTOUCHED: u16 = 7;
+
+const WITNESS_WORDS: usize = 64;
+
+// The next byte of a file; past its end, 0.
+fn byte(file: &[u8], at: &mut usize) -> u8 {
+    let i = *at;
+    if i < file.len() {
+        *at = i + 1;
+        return file[i];
     }
-    if 1000000000 < n {
-        return at;
-    }
-    at + n
+    0
 }
 
-fn byte(b: &[u8], at: usize) -> u32
-    ensures { λ r. ⌜ r < 256 ⌝ }
-{
-    if at < b.len() { b[at] as u32 } else { 0 }
+// Numbers of two, four and eight bytes, the low byte first.
+fn short(file: &[u8], at: &mut usize) -> u16 {
+    let low = byte(file, at) as u16;
+    let high = byte(file, at) as u16;
+    low + high * 256
 }
 
-// Numbers of two and four bytes, the low byte first.
-fn short(b: &[u8], at: usize) -> u16 {
-    let low = byte(b, at);
-    let high = byte(b, after(at, 1));
-    (low + high * 256) as u16
-}
-
-fn long(b: &[u8], at: usize) -> u32 {
-    let low = short(b, at) as u32;
-    let high = short(b, after(at, 2)) as u32;
+fn long(file: &[u8], at: &mut usize) -> u32 {
+    let low = short(file, at) as u32;
+    let high = short(file, at) as u32;
     low + high * 65536
+}
+
+fn wide(file: &[u8], at: &mut usize) -> u64 {
+    let low = long(file, at) as u64;
+    let high = long(file, at) as u64;
+    low + high * 4294967296
 }
 
 fn put(words: &mut [u16], at: usize, w: u16) {
@@ -38,184 +53,156 @@ fn put(words: &mut [u16], at: usize, w: u16) {
     }
 }
 
-// n words of the file, from a place of the file on, to a place on.
-fn load(b: &[u8], at: usize, n: usize, words: &mut [u16], to: usize) {
-    let mut i: usize = 0;
+// A count, and so many words, which go to a place on. Tells how many.
+fn read_words(file: &[u8], at: &mut usize, to: &mut [u16], first: u16) -> usize {
+    let n = short(file, at);
+    let mut i: u16 = 0;
     while i < n {
-        put(words, after(to, i), short(b, after(at, after(i, i))));
+        let w = short(file, at);
+        put(to, first as usize + i as usize, w);
         i += 1;
     }
+    n as usize
 }
 
-// The runs of a table; the place after them.
-fn load_runs(b: &[u8], at: usize, runs: u16, table: &mut [u16]) -> usize {
-    let mut next = at;
+// A table, run by run. Tells how many words it has.
+fn read_table(file: &[u8], at: &mut usize, table: &mut [u16]) -> usize {
+    let size = long(file, at) as usize;
+    let runs = short(file, at);
     let mut i: u16 = 0;
     while i < runs {
-        let n = short(b, after(next, 2)) as usize;
-        load(b, after(next, 4), n, table, short(b, next) as usize);
-        next = after(next, after(4, after(n, n)));
+        let first = short(file, at);
+        read_words(file, at, table, first);
         i += 1;
     }
-    next
+    size
 }
 
-// What was replayed: the place after it, how many cases, how many answers differ.
+// An event but for its stacks.
+struct Event {
+    operation: u16,
+    target: u16,
+    uid: u32,
+    gid: u32,
+    allocation_uid: u32,
+    allocation_gid: u32,
+}
+
+fn read_event(file: &[u8], at: &mut usize) -> Event {
+    let operation = short(file, at);
+    let target = short(file, at);
+    let uid = long(file, at);
+    let gid = long(file, at);
+    let allocation_uid = long(file, at);
+    let allocation_gid = long(file, at);
+    Event {
+        operation: operation,
+        target: target,
+        uid: uid,
+        gid: gid,
+        allocation_uid: allocation_uid,
+        allocation_gid: allocation_gid,
+    }
+}
+
+fn judge(event: Event, table: &[u16], stack: &[u16], allocation: &[u16]) -> u32 {
+    export::dovetenon_judge(
+        table,
+        event.operation,
+        event.target,
+        stack,
+        event.uid,
+        event.gid,
+        allocation,
+        event.allocation_uid,
+        event.allocation_gid,
+    )
+}
+
+// The verdict on the next event.
+fn judged(file: &[u8], at: &mut usize, table: &[u16]) -> u32 {
+    let mut stack = [0u16; STACK_WORDS];
+    let mut allocation = [0u16; STACK_WORDS];
+    let event = read_event(file, at);
+    let frames = read_words(file, at, &mut stack, 0);
+    let allocated = read_words(file, at, &mut allocation, 0);
+    judge(
+        event,
+        table,
+        table::part(&stack, 0, frames),
+        table::part(&allocation, 0, allocated),
+    )
+}
+
+// How many cases there were, and how many answers differ from the one stored.
 struct Tally {
-    at: usize,
     cases: u32,
     differ: u32,
 }
 
 impl Tally {
-    fn with(self, at: usize, same: bool) -> Tally {
-        let cases = counted(self.cases, true);
-        let differ = counted(self.differ, !same);
+    fn with(self, same: bool) -> Tally {
+        let cases = one_more(self.cases);
+        let differ = self.differ;
+        if same {
+            return Tally {
+                cases: cases,
+                differ: differ,
+            };
+        }
         Tally {
-            at: at,
             cases: cases,
-            differ: differ,
+            differ: one_more(differ),
         }
     }
 }
 
-fn counted(n: u32, one: bool) -> u32 {
-    if 1000000000 < n {
-        return n;
+// The largest number of its type stays as it is.
+fn one_more(n: u32) -> u32 {
+    if n < 4294967295 { n + 1 } else { n }
+}
+
+fn tell(what: &[u8], n: u32) {
+    io::write_all(OUT, what);
+    io::print_decimal(OUT, n as u64);
+    io::write_all(OUT, b"\n");
+}
+
+// A verdict in words: bits 16 to 31 are its class, bits 0 to 15 its value.
+fn tell_verdict(verdict: u32) {
+    let class = (verdict >> 16) as u16;
+    let value = verdict % 65536;
+    if class == class::INSIDE {
+        io::write_all(OUT, b"allowed inside one domain\n");
+    } else if class == class::GRANTED {
+        tell(b"allowed by entry ", value);
+    } else if class == class::VIOLATION {
+        tell(b"violation ", value);
+    } else {
+        tell(b"refused, ", value);
     }
-    if one {
-        return n + 1;
-    }
-    n
 }
 
-// One event of a table against its stored answer. A stack of more than 128 frames is as good as one of 128: both are refused.
-fn replay_event(b: &[u8], tally: Tally, table: &[u16]) -> Tally {
-    let at = tally.at;
-    let mut stack = [0u16; 128];
-    let mut allocation = [0u16; 128];
-    let frames = short(b, after(at, 20)) as usize;
-    load(b, after(at, 22), frames, &mut stack, 0);
-    let then = after(at, after(22, after(frames, frames)));
-    let allocated = short(b, then) as usize;
-    load(b, after(then, 2), allocated, &mut allocation, 0);
-    let answered = after(then, after(2, after(allocated, allocated)));
-    let answer = ask(
-        b,
-        at,
-        table,
-        table::part(&stack, 0, frames),
-        table::part(&allocation, 0, allocated),
-    );
-    tally.with(after(answered, 4), answer == long(b, answered))
-}
-
-fn ask(b: &[u8], at: usize, table: &[u16], stack: &[u16], allocation: &[u16]) -> u32 {
-    let operation = short(b, at);
-    let target = short(b, after(at, 2));
-    let uid = long(b, after(at, 4));
-    let gid = long(b, after(at, 8));
-    let allocation_uid = long(b, after(at, 12));
-    let allocation_gid = long(b, after(at, 16));
-    export::dovetenon_judge(
-        table,
-        operation,
-        target,
-        stack,
-        uid,
-        gid,
-        allocation,
-        allocation_uid,
-        allocation_gid,
-    )
-}
-
-fn replay_events(b: &[u8], tally: Tally, table: &[u16], events: u32) -> Tally {
+// The events of a table; aloud, each verdict is told.
+fn replay_events(file: &[u8], at: &mut usize, table: &[u16], aloud: bool, tally: Tally) -> Tally {
+    let events = long(file, at);
     let mut now = tally;
     let mut i: u32 = 0;
     while i < events {
-        now = replay_event(b, now, table);
+        let verdict = judged(file, at, table);
+        if aloud {
+            tell_verdict(verdict);
+        }
+        now = now.with(verdict == long(file, at));
         i += 1;
     }
     now
 }
 
-// One table and its events.
-fn replay_table(b: &[u8], tally: Tally) -> Tally {
-    let at = tally.at;
-    let mut table = [0u16; 65536];
-    let words = long(b, at) as usize;
-    let then = load_runs(b, after(at, 6), short(b, after(at, 4)), &mut table);
-    let next = Tally {
-        at: after(then, 4),
-        cases: tally.cases,
-        differ: tally.differ,
-    };
-    replay_events(b, next, table::part(&table, 0, words), long(b, then))
-}
-
-fn replay_tables(b: &[u8]) -> Tally {
-    let mut tally = Tally {
-        at: 4,
-        cases: 0,
-        differ: 0,
-    };
-    let tables = long(b, 0);
-    let mut i: u32 = 0;
-    while i < tables {
-        tally = replay_table(b, tally);
-        i += 1;
-    }
-    tally
-}
-
-// The first words of the witness are those stored as written, and the rest is untouched: 7, as before the call.
-fn witness_as_stored(b: &[u8], at: usize, written: usize, witness: &[u16]) -> bool {
-    let mut same = true;
-    let mut i: usize = 0;
-    while i < witness.len() {
-        same = both(same, witness[i] == stored_word(b, at, written, i));
-        i += 1;
-    }
-    same
-}
-
-fn stored_word(b: &[u8], at: usize, written: usize, i: usize) -> u16 {
-    if i < written {
-        return short(b, after(at, after(i, i)));
-    }
-    7
-}
-
-fn both(a: bool, b: bool) -> bool {
-    if a {
-        return b;
-    }
-    false
-}
-
-fn fill(words: &mut [u16], w: u16) {
-    let mut i: usize = 0;
-    while i < words.len() {
-        words[i] = w;
-        i += 1;
-    }
-}
-
-// One table and the report of it. At most 64 words are lent; more would stay as they are.
-fn replay_report(b: &[u8], tally: Tally) -> Tally {
-    let at = tally.at;
-    let mut table = [0u16; 65536];
-    let mut witness = [0u16; 64];
-    let then = load_runs(b, after(at, 6), short(b, after(at, 4)), &mut table);
-    let words = long(b, at) as usize;
-    let lent = short(b, then) as usize;
-    let written = short(b, after(then, 10)) as usize;
-    fill(&mut witness, 7);
-    let answer = report(table::part(&table, 0, words), &mut witness, lent);
-    let same = witness_as_stored(b, after(then, 12), written, &witness);
-    let next = after(then, after(12, after(written, written)));
-    tally.with(next, both(same, answer == wide(b, after(then, 2))))
+fn replay_table(file: &[u8], at: &mut usize, aloud: bool, tally: Tally) -> Tally {
+    let mut table = [0u16; TABLE_WORDS];
+    let size = read_table(file, at, &mut table);
+    replay_events(file, at, table::part(&table, 0, size), aloud, tally)
 }
 
 // The report with so many words of the witness lent.
@@ -227,142 +214,111 @@ fn report(table: &[u16], witness: &mut [u16], lent: usize) -> u64 {
     export::dovetenon_overlap(table, witness)
 }
 
-fn wide(b: &[u8], at: usize) -> u64 {
-    let low = long(b, at) as u64;
-    let high = long(b, after(at, 4)) as u64;
-    low + high * 4294967296
+// A table and the report of it.
+fn replay_report(file: &[u8], at: &mut usize, tally: Tally) -> Tally {
+    let mut table = [0u16; TABLE_WORDS];
+    let mut witness = [UNTOUCHED; WITNESS_WORDS];
+    let mut stored = [UNTOUCHED; WITNESS_WORDS];
+    let size = read_table(file, at, &mut table);
+    let lent = short(file, at) as usize;
+    let answer = report(table::part(&table, 0, size), &mut witness, lent);
+    let same = answer == wide(file, at);
+    read_words(file, at, &mut stored, 0);
+    if table::same_words(&witness, &stored) {
+        return tally.with(same);
+    }
+    tally.with(false)
 }
 
-fn replay_reports(b: &[u8]) -> Tally {
+// So many bytes, or as many as there are.
+fn stretch<'a>(file: &'a [u8], at: &mut usize, n: usize) -> &'a [u8] {
+    let start = *at;
+    let end = file.len();
+    if end <= start {
+        return &file[..0];
+    }
+    if end - start <= n {
+        *at = end;
+        return &file[start..];
+    }
+    let past = start + n;
+    *at = past;
+    &file[start..past]
+}
+
+// A text and the answer to its page.
+fn replay_page(file: &[u8], at: &mut usize, tally: Tally) -> Tally {
+    let n = long(file, at) as usize;
+    let text = stretch(file, at, n);
+    let answer = export::dovetenon_page(text);
+    tally.with(answer == wide(file, at))
+}
+
+// What the cases of a file are.
+enum Cases {
+    Trials,
+    Events,
+    Reports,
+    Pages,
+}
+
+fn replay_case(cases: Cases, file: &[u8], at: &mut usize, tally: Tally) -> Tally {
+    match cases {
+        Cases::Trials => replay_table(file, at, true, tally),
+        Cases::Events => replay_table(file, at, false, tally),
+        Cases::Reports => replay_report(file, at, tally),
+        Cases::Pages => replay_page(file, at, tally),
+    }
+}
+
+fn replay_cases(cases: Cases, file: &[u8]) -> Tally {
+    let mut at: usize = 0;
+    let count = long(file, &mut at);
     let mut tally = Tally {
-        at: 4,
         cases: 0,
         differ: 0,
     };
-    let cases = long(b, 0);
     let mut i: u32 = 0;
-    while i < cases {
-        tally = replay_report(b, tally);
+    while i < count {
+        tally = replay_case(cases, file, &mut at, tally);
         i += 1;
     }
     tally
 }
 
-// One text and the refusal of its page.
-fn replay_page(b: &[u8], tally: Tally) -> Tally {
-    let at = tally.at;
-    let n = long(b, at) as usize;
-    let start = after(at, 4);
-    let end = after(start, n);
-    let answer = page_at(b, start, end);
-    tally.with(after(end, 8), answer == wide(b, end))
-}
-
-fn page_at(b: &[u8], start: usize, end: usize) -> u64 {
-    if end < start {
-        return 0;
-    }
-    if b.len() < end {
-        return 0;
-    }
-    export::dovetenon_page(&b[start..end])
-}
-
-fn replay_pages(b: &[u8]) -> Tally {
-    let mut tally = Tally {
-        at: 4,
-        cases: 0,
-        differ: 0,
-    };
-    let cases = long(b, 0);
-    let mut i: u32 = 0;
-    while i < cases {
-        tally = replay_page(b, tally);
-        i += 1;
-    }
-    tally
-}
-
-// The table of document 01's file: Meter has the object 0, Main the function 0 (main), Bill the functions 1 (add) and 2 (sum).
-fn write_example(table: &mut [u16]) {
-    put(table, 0, 17492);
-    put(table, 1, 1);
-    put(table, 2, 2);
-    put(table, 3, 1);
-    put(table, 4, 3);
-    put(table, 5, 1);
-    put(table, 1057, 1);
-    put(table, 1058, 1);
-    write_entry(table);
-}
-
-// Its one entry: subject Bill, a uid bound, may return to Main and read Meter.
-fn write_entry(table: &mut [u16]) {
-    put(table, 2080, 1);
-    put(table, 2081, 1);
-    put(table, 2100, 1);
-    put(table, 2101, 1);
-    put(table, 2114, 1);
-    put(table, 7712, 1);
-    put(table, 7733, 1);
-}
-
-fn trial(table: &[u16], base: u16, top: u16, operation: u16, target: u16) {
-    let stack = [base, top];
-    say(
-        export::dovetenon_judge(table, operation, target, &stack, 5, 0, &[], 0, 0),
-        b"\n",
-    );
-}
-
-// P1 to P7, of which P4 has a stack of one function.
-fn trials() {
-    let mut table = [0u16; 16384];
-    write_example(&mut table);
-    trial(&table, 0, 1, 4, 0);
-    trial(&table, 0, 1, 3, 2);
-    trial(&table, 0, 1, 3, 0);
-    let main = [0u16; 1];
-    say(
-        export::dovetenon_judge(&table, 3, 1, &main, 5, 0, &[], 0, 0),
-        b"\n",
-    );
-    trial(&table, 0, 9, 3, 0);
-    trial(&table, 0, 1, 1, 7);
-    trial(&table, 0, 1, 1, 0);
-}
-
-fn say(n: u32, what: &[u8]) {
-    io::print_decimal(1, n as u64);
-    io::write_all(1, what);
-}
-
-fn tell(tally: Tally, what: &[u8]) {
-    say(tally.cases, what);
-    say(tally.differ, b" answers differ\n");
-}
-
-fn judge_cases() {
-    let mut file = [0u8; 262144];
-    let n = io::read_full(os::open_read(b"judge.cases"), &mut file);
-    tell(replay_tables(&file[..n]), b" stored events judged, ");
-}
-
-fn overlap_cases() {
-    let mut file = [0u8; 131072];
-    let n = io::read_full(os::open_read(b"overlap.cases"), &mut file);
-    tell(replay_reports(&file[..n]), b" stored tables reported on, ");
-}
-
-fn page_cases() {
-    let mut file = [0u8; 131072];
-    let n = io::read_full(os::open_read(b"page.cases"), &mut file);
-    tell(replay_pages(&file[..n]), b" stored pages read, ");
+fn replay(room: &mut [u8], name: &[u8], cases: Cases, done: &[u8]) {
+    let n = io::read_full(os::open_read(name), room);
+    let tally = replay_cases(cases, &room[..n]);
+    io::print_decimal(OUT, tally.cases as u64);
+    io::write_all(OUT, done);
+    io::print_decimal(OUT, tally.differ as u64);
+    io::write_all(OUT, b" answers differ\n");
 }
 
 fn main() {
-    trials();
-    judge_cases();
-    overlap_cases();
-    page_cases();
+    let mut room = [0u8; FILE_BYTES];
+    replay(
+        &mut room,
+        b"trials.cases",
+        Cases::Trials,
+        b" trials judged, ",
+    );
+    replay(
+        &mut room,
+        b"judge.cases",
+        Cases::Events,
+        b" stored events judged, ",
+    );
+    replay(
+        &mut room,
+        b"overlap.cases",
+        Cases::Reports,
+        b" stored tables reported on, ",
+    );
+    replay(
+        &mut room,
+        b"page.cases",
+        Cases::Pages,
+        b" stored pages read, ",
+    );
 }

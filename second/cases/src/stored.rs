@@ -1,19 +1,25 @@
 //! Stored cases: inputs and the second program's answers as plain bytes.
 //!
-//! The layout is told in `stored/README.md`: little-endian numbers, lengths
-//! first, so that a program without strings or heap can replay them.
+//! The layout is told in `crates/replay/data/README.md`: little-endian numbers,
+//! lengths first, so that a program without strings or heap can replay them.
 
 use crate::dice::Dice;
 use crate::events::{self, OwnEvent};
 use crate::{tables, texts};
 use second::{decode, first_fault, judge, overlap, Refusal};
 
+/// The codes of the trials' operations.
+const READ: u16 = 1;
+const CALL: u16 = 3;
+const RETURN: u16 = 4;
+
 /// The seed of all stored cases.
 const SEED: u64 = 2_026;
 
 /// Each file's name and its bytes.
-pub fn files() -> [(&'static str, Vec<u8>); 3] {
+pub fn files() -> [(&'static str, Vec<u8>); 4] {
     [
+        ("trials.cases", trials()),
         ("judge.cases", judge_cases()),
         ("overlap.cases", overlap_cases()),
         ("page.cases", page_cases()),
@@ -69,7 +75,9 @@ fn put_table(out: &mut Vec<u8>, table: &[u16]) {
     }
 }
 
-fn put_event(out: &mut Vec<u8>, event: &OwnEvent, answer: u32) {
+/// An event and the verdict on it under a table.
+fn put_event(out: &mut Vec<u8>, table: &[u16], event: &OwnEvent) {
+    let verdict = judge(table, event.operation, event.target, &event.lent());
     put_u16(out, event.operation);
     put_u16(out, event.target);
     put_u32(out, event.uid);
@@ -78,7 +86,40 @@ fn put_event(out: &mut Vec<u8>, event: &OwnEvent, answer: u32) {
     put_u32(out, event.allocation_gid);
     put_words(out, &event.stack);
     put_words(out, &event.allocation);
-    put_u32(out, answer);
+    put_u32(out, verdict.answer().packed() as u32);
+}
+
+/// Trials P1 to P7 of document 01, at uid 5: main is function 0, add 1, sum 2.
+fn trials() -> Vec<u8> {
+    let events: [(&[u16], u16, u16); 7] = [
+        (&[0, 1], RETURN, 0),
+        (&[0, 1], CALL, 2),
+        (&[0, 1], CALL, 0),
+        (&[0], CALL, 1),
+        (&[0, 9], CALL, 0),
+        (&[0, 1], READ, 7),
+        (&[0, 1], READ, 0),
+    ];
+    let policy = second::policy_of(second::EXAMPLE.as_bytes()).ok();
+    let table = policy.and_then(|p| second::encode(&p)).unwrap_or_default();
+    let mut out = Vec::new();
+    put_u32(&mut out, 1);
+    put_table(&mut out, &table);
+    put_u32(&mut out, events.len() as u32);
+    for (stack, operation, target) in events {
+        let event = OwnEvent {
+            operation,
+            target,
+            stack: stack.to_vec(),
+            uid: 5,
+            gid: 0,
+            allocation: Vec::new(),
+            allocation_uid: 0,
+            allocation_gid: 0,
+        };
+        put_event(&mut out, &table, &event);
+    }
+    out
 }
 
 fn judge_cases() -> Vec<u8> {
@@ -98,8 +139,7 @@ fn judge_cases() -> Vec<u8> {
         put_u32(&mut out, events);
         for _ in 0..events {
             let event = events::event(&mut dice, policy.as_ref());
-            let verdict = judge(&table, event.operation, event.target, &event.lent());
-            put_event(&mut out, &event, verdict.packed());
+            put_event(&mut out, &table, &event);
         }
     }
     out
@@ -114,14 +154,14 @@ fn overlap_cases() -> Vec<u8> {
         let table = tables::table(&mut dice);
         let room = *dice.pick(&[0, 31, 32, 32, 32, 32, 32, 33]);
         let mut witness = vec![0; room];
-        let answer = overlap(&table, &mut witness);
-        let written = match answer {
+        let report = overlap(&table, &mut witness);
+        let written = match report {
             second::Overlap::Refused(_) => 0,
             _ => second::WITNESS_WORDS,
         };
         put_table(&mut out, &table);
         put_u16(&mut out, room as u16);
-        put_u64(&mut out, answer.packed());
+        put_u64(&mut out, report.answer().packed());
         put_words(&mut out, &witness[..written]);
     }
     out
@@ -140,7 +180,7 @@ fn page_cases() -> Vec<u8> {
         };
         put_u32(&mut out, text.len() as u32);
         out.extend_from_slice(&text);
-        put_u64(&mut out, Refusal::packed(first_fault(&text)));
+        put_u64(&mut out, Refusal::answer(first_fault(&text)).packed());
     }
     out
 }

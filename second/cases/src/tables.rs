@@ -7,7 +7,6 @@ use second::table::{
     DESCRIPTORS_AT, DESCRIPTOR_WORDS, ENTRIES_AT, ENTRY_WORDS, FUNCTIONS_AT, OBJECTS_AT, UNUSED_AT,
 };
 use second::{encode, policy_of, TABLE_WORDS};
-use std::collections::BTreeSet;
 
 /// Any table, well formed in most cases, with words past its end at times.
 pub fn table(dice: &mut Dice) -> Vec<u16> {
@@ -79,27 +78,31 @@ pub fn policy(dice: &mut Dice) -> Policy {
 pub fn direct(dice: &mut Dice) -> Policy {
     let object_domains = *dice.pick(&[0, 1, 2, 2, 3, 4]);
     let subject_domains = *dice.pick(&[0, 1, 2, 2, 3, 3, 4]);
-    let members = |dice: &mut Dice, domains: u16, most: usize| -> Vec<u16> {
+    let some = |dice: &mut Dice, domains: u16| {
         let least = usize::from(dice.percent(90));
         let count = if domains == 0 {
             0
         } else {
-            dice.from_to(least, most)
+            dice.from_to(least, 8)
         };
-        (0..count)
-            .map(|_| dice.below(domains.into()) as u16)
-            .collect()
+        members(dice, domains, count)
     };
     let mut policy = Policy {
         object_domains,
         subject_domains,
-        objects: members(dice, object_domains, 8),
-        functions: members(dice, subject_domains, 8),
+        objects: some(dice, object_domains),
+        functions: some(dice, subject_domains),
         entries: Vec::new(),
     };
     let most = *dice.pick(&[2, 4, 9]);
     add_entries(dice, &mut policy, most, 4);
     policy
+}
+
+/// The domains of so many members.
+fn members(dice: &mut Dice, domains: u16, count: usize) -> Vec<u16> {
+    let one = |_| dice.below(domains.into()) as u16;
+    (0..count).map(one).collect()
 }
 
 /// Two entries of one subject that only long stacks meet: one pattern begins
@@ -143,11 +146,9 @@ fn long_clash(dice: &mut Dice) -> Policy {
 /// A policy with many entries, long patterns and many domains.
 pub fn large(dice: &mut Dice) -> Policy {
     let (object_domains, subject_domains) = (128, dice.from_to(100, 128) as u16);
-    let any = |dice: &mut Dice, domains: u16| -> Vec<u16> {
+    let any = |dice: &mut Dice, domains: u16| {
         let count = *dice.pick(&[1_024, 1_023, 700]);
-        (0..count)
-            .map(|_| dice.below(domains.into()) as u16)
-            .collect()
+        members(dice, domains, count)
     };
     let mut policy = Policy {
         object_domains,
@@ -202,8 +203,8 @@ fn grant(dice: &mut Dice, domains: u16) -> Grant {
         return Grant::All;
     }
     let chance = *dice.pick(&[0, 30, 60, 100]);
-    let all: BTreeSet<u16> = (0..domains).filter(|_| dice.percent(chance)).collect();
-    Grant::Domains(all)
+    let some = (0..domains).filter(|_| dice.percent(chance));
+    Grant::Domains(some.collect())
 }
 
 fn context(dice: &mut Dice, policy: &Policy, elements: usize, outer: Option<&Context>) -> Context {

@@ -380,7 +380,7 @@ fn check_witness(policy: &Policy, answer: Overlap, witness: &[u16]) -> String {
     format!("clash of {length:>2}")
 }
 
-fn entry_matches(policy: &Policy, entry: u16, stack: &[u16], uid: u16) -> bool {
+fn entry_matches(policy: &Policy, entry: u8, stack: &[u16], uid: u8) -> bool {
     let entry = &policy.entries[usize::from(entry)];
     let top = policy.functions.get(usize::from(*stack.last().unwrap()));
     let uid_fits = match entry.context.uid {
@@ -394,14 +394,14 @@ fn entry_matches(policy: &Policy, entry: u16, stack: &[u16], uid: u16) -> bool {
 /// The report by trying every stack of at most six frames; a longer answer is
 /// taken as it is.
 fn brute(policy: &Policy, witness: &[u16]) -> Overlap {
-    let entries = policy.entries.len() as u16;
+    let entries = policy.entries.len() as u8;
     let stacks = stacks(policy.functions.len() as u16, 6);
     let answer = overlap(&encode(policy).unwrap(), &mut [0; 32]);
     for lower in 0..entries {
         for higher in lower + 1..entries {
             if let Some((stack, uid)) = brute_pair(policy, lower, higher, &stacks) {
                 assert_eq!(witness[..stack.len()], stack[..], "not the lowest");
-                let length = stack.len() as u16;
+                let length = stack.len() as u8;
                 return Overlap::Clash {
                     lower,
                     higher,
@@ -409,9 +409,14 @@ fn brute(policy: &Policy, witness: &[u16]) -> Overlap {
                     uid,
                 };
             }
-            let packed = answer.packed();
-            if packed >> 32 & 0xFF > 6 && packed >> 16 & 0xFFFF == u64::from(higher << 8 | lower) {
-                return answer;
+            match answer {
+                Overlap::Clash {
+                    lower: one,
+                    higher: other,
+                    length: 7..,
+                    ..
+                } if (one, other) == (lower, higher) => return answer,
+                _ => {}
             }
         }
     }
@@ -421,17 +426,17 @@ fn brute(policy: &Policy, witness: &[u16]) -> Overlap {
 /// The first stack that two entries both match under some uid.
 fn brute_pair<'s>(
     policy: &Policy,
-    lower: u16,
-    higher: u16,
+    lower: u8,
+    higher: u8,
     stacks: &'s [Vec<u16>],
-) -> Option<(&'s Vec<u16>, u16)> {
+) -> Option<(&'s Vec<u16>, u8)> {
     let both = [lower, higher];
     let is_real = |stack: &&Vec<u16>| {
         let under = |uid| both.iter().all(|&e| entry_matches(policy, e, stack, uid));
         under(0) || under(1)
     };
     let stack = stacks[1..].iter().find(is_real)?;
-    let is_user = |&e: &u16| policy.entries[usize::from(e)].context.uid == Uid::User;
+    let is_user = |&e: &u8| policy.entries[usize::from(e)].context.uid == Uid::User;
     Some((stack, both.iter().any(is_user).into()))
 }
 

@@ -1,9 +1,13 @@
 //! The stored files are what the generator makes now, and say what their
 //! README says they do.
 
+use cases::events::OwnEvent;
 use cases::stored::{files, runs};
-use second::{first_fault, judge, overlap, Event, Refusal};
-use std::collections::BTreeSet;
+use second::answer::REFUSED;
+use second::{
+    first_fault, judge, overlap, read, Answer, Overlap, Refusal, Verdict, EXAMPLE, TABLE_WORDS,
+};
+use std::collections::HashSet;
 use std::path::Path;
 
 #[test]
@@ -16,7 +20,7 @@ fn stored_files_are_made_again_byte_for_byte() {
 
 #[test]
 fn stored_files_are_small() {
-    let limits = [300_000, 150_000, 100_000];
+    let limits = [1_000, 159_000, 150_000, 100_000];
     for ((name, bytes), limit) in files().iter().zip(limits) {
         assert!(bytes.len() < limit, "{name}: {}", bytes.len());
     }
@@ -48,6 +52,23 @@ impl Replay {
         (0..count).map(|_| self.number(2) as u16).collect()
     }
 
+    /// An event and its answer.
+    fn event(&mut self) -> (OwnEvent, Answer) {
+        let (operation, target) = (self.number(2) as u16, self.number(2) as u16);
+        let ids: Vec<u32> = (0..4).map(|_| self.number(4) as u32).collect();
+        let event = OwnEvent {
+            operation,
+            target,
+            stack: self.words(),
+            uid: ids[0],
+            gid: ids[1],
+            allocation: self.words(),
+            allocation_uid: ids[2],
+            allocation_gid: ids[3],
+        };
+        (event, Answer::of(self.number(4)))
+    }
+
     fn table(&mut self) -> Vec<u16> {
         let mut table = vec![0; self.number(4) as usize];
         for _ in 0..self.number(2) {
@@ -60,71 +81,87 @@ impl Replay {
 }
 
 #[test]
+fn trials_are_those_of_document_01() {
+    let mut replay = Replay::of("trials.cases");
+    assert_eq!(replay.number(4), 1);
+    let mut table = vec![0; TABLE_WORDS];
+    assert_eq!(read(EXAMPLE.as_bytes(), &mut table), Ok(()));
+    assert_eq!(replay.table(), table);
+    let told = (0..replay.number(4)).map(|_| replay.event().1);
+    let verdicts = [
+        Verdict::Allowed(0),
+        Verdict::Inside,
+        Verdict::Violation(4),
+        Verdict::Violation(3),
+        Verdict::Violation(1),
+        Verdict::Violation(2),
+        Verdict::Allowed(0),
+    ];
+    assert!(told.eq(verdicts.map(Verdict::answer)));
+}
+
+#[test]
 fn judge_cases_replay() {
     let mut replay = Replay::of("judge.cases");
-    let mut seen = BTreeSet::new();
+    let mut seen = HashSet::new();
     for _ in 0..replay.number(4) {
         let table = replay.table();
         for _ in 0..replay.number(4) {
-            let (operation, target) = (replay.number(2) as u16, replay.number(2) as u16);
-            let ids: Vec<u32> = (0..4).map(|_| replay.number(4) as u32).collect();
-            let (stack, allocation) = (replay.words(), replay.words());
-            let event = Event {
-                stack: &stack,
-                uid: ids[0],
-                gid: ids[1],
-                allocation: &allocation,
-                allocation_uid: ids[2],
-                allocation_gid: ids[3],
-            };
-            let answer = replay.number(4) as u32;
-            assert_eq!(judge(&table, operation, target, &event).packed(), answer);
-            seen.insert(if answer >> 16 == 1 { 65_536 } else { answer });
+            let (event, answer) = replay.event();
+            let verdict = judge(&table, event.operation, event.target, &event.lent());
+            assert_eq!(verdict.answer(), answer);
+            // Whichever entry it is that allows.
+            seen.insert(match verdict {
+                Verdict::Allowed(_) => Verdict::Allowed(0),
+                other => other,
+            });
         }
     }
     assert_eq!(replay.at, replay.bytes.len());
-    let class = |class: u32, values: &[u32]| values.iter().map(|v| class << 16 | v).collect();
-    let needed: Vec<Vec<u32>> = vec![
-        class(0, &[0]),
-        class(1, &[0]),
-        class(2, &[1, 2, 3, 4]),
-        class(3, &[20, 21, 22, 23]),
-    ];
-    assert_eq!(seen, needed.concat().into_iter().collect());
+    let violations = (1..=4).map(Verdict::Violation);
+    let refusals = (20..=23).map(Verdict::Refused);
+    let allowed = [Verdict::Inside, Verdict::Allowed(0)];
+    let needed = violations.chain(refusals).chain(allowed);
+    assert_eq!(seen, needed.collect());
 }
 
 #[test]
 fn overlap_cases_replay() {
     let mut replay = Replay::of("overlap.cases");
-    let mut seen = BTreeSet::new();
+    let mut seen = HashSet::new();
     for _ in 0..replay.number(4) {
         let table = replay.table();
         let mut witness = vec![0; replay.number(2) as usize];
-        let answer = replay.number(8);
-        assert_eq!(overlap(&table, &mut witness).packed(), answer);
+        let report = overlap(&table, &mut witness);
+        assert_eq!(report.answer(), Answer::of(replay.number(8)));
         let words = replay.words();
         assert_eq!(words, witness[..words.len()]);
-        seen.insert((answer & 0xFFFF, answer >> 32 & 0xFF));
+        seen.insert(report);
     }
     assert_eq!(replay.at, replay.bytes.len());
-    assert!(seen.contains(&(20, 0)) && seen.contains(&(40, 0)) && seen.contains(&(0, 0)));
-    assert!(seen.iter().any(|&(_, length)| length > 20));
+    for needed in [Overlap::Refused(20), Overlap::Refused(40), Overlap::Clear] {
+        assert!(seen.contains(&needed));
+    }
+    let is_long = |report: &Overlap| matches!(report, Overlap::Clash { length: 21.., .. });
+    assert!(seen.iter().any(is_long));
 }
 
 #[test]
 fn page_cases_replay() {
     let mut replay = Replay::of("page.cases");
-    let mut seen = BTreeSet::new();
+    let mut seen = HashSet::new();
     for _ in 0..replay.number(4) {
         let length = replay.number(4) as usize;
         let text = replay.bytes[replay.at..replay.at + length].to_vec();
         replay.at += length;
-        let answer = replay.number(8);
-        assert_eq!(Refusal::packed(first_fault(&text)), answer);
-        seen.insert(answer & 0xFFFF);
+        let answer = Refusal::answer(first_fault(&text));
+        assert_eq!(answer, Answer::of(replay.number(8)));
+        seen.insert((answer.class, answer.value));
     }
     assert_eq!(replay.at, replay.bytes.len());
-    assert_eq!(seen, BTreeSet::from([0, 3, 4, 5, 9]));
+    let refusals = [3, 4, 5, 9].map(|number| (REFUSED, number));
+    let needed = refusals.into_iter().chain([(2, 0)]);
+    assert_eq!(seen, needed.collect());
 }
 
 #[test]

@@ -1,11 +1,13 @@
 //! `judge` and `judge_known`: a table and an event to a verdict.
 
-use crate::run::{Check, Options};
+use crate::case::Check;
+use crate::options::Options;
 use crate::show;
 use crate::wire::{Call, Function, Replies, Requests};
 use cases::events::{self, OwnEvent};
 use cases::{tables, Dice};
 use second::judge::{judge_policy, Verdict};
+use second::refusal::NOT_WELL_FORMED;
 use second::{decode, Policy};
 
 const TABLE: u32 = 0;
@@ -78,36 +80,26 @@ pub fn call(function: Function, event: &OwnEvent, slots: [u32; 3]) -> Call {
 }
 
 /// What `second::judge` answers, the table decoded once for all events.
-fn plain(policy: Option<&Policy>, event: &OwnEvent) -> u32 {
-    let verdict = match policy {
-        None => Verdict::Refused(20),
+fn plain(policy: Option<&Policy>, event: &OwnEvent) -> Verdict {
+    match policy {
+        None => Verdict::Refused(NOT_WELL_FORMED),
         Some(policy) => judge_policy(policy, event.operation, event.target, &event.lent()),
-    };
-    verdict.packed()
+    }
 }
 
-fn check(plain: u32, event: &OwnEvent, replies: &mut Replies<'_>) -> Result<(), String> {
-    let answer = replies.answer()?;
-    // Told only when they differ: there are many events.
-    if answer != plain.into() {
-        show::equal(told(answer), told(plain.into()))?;
-    }
+fn check(plain: Verdict, event: &OwnEvent, replies: &mut Replies<'_>) -> Result<(), String> {
+    show::equal(replies.answer()?, plain.answer())?;
     replies.shown()?.check("stack", &event.stack)?;
     replies
         .shown()?
         .check("allocation stack", &event.allocation)
 }
 
-/// A packed verdict as class and value, for a reader.
-fn told(packed: u64) -> String {
-    format!("class {} value {}", packed >> 16, packed & 0xFFFF)
-}
-
-fn name(packed: u32) -> String {
-    match packed >> 16 {
-        0 => "inside one domain".to_string(),
-        1 => "allowed by an entry".to_string(),
-        2 => format!("violation {}", packed & 0xFFFF),
-        _ => format!("refused {}", packed & 0xFFFF),
+fn name(verdict: Verdict) -> String {
+    match verdict {
+        Verdict::Inside => "inside one domain".to_string(),
+        Verdict::Allowed(_) => "allowed by an entry".to_string(),
+        Verdict::Violation(number) => format!("violation {number}"),
+        Verdict::Refused(number) => format!("refused {number}"),
     }
 }

@@ -7,8 +7,10 @@
 #![forbid(unsafe_code)]
 
 pub mod bridge;
+pub mod case;
 pub mod judge;
 pub mod lent;
+pub mod options;
 pub mod overlap;
 pub mod page;
 pub mod run;
@@ -17,4 +19,5 @@ pub mod well_formed;
 pub mod wire;
 
 pub use bridge::Bridge;
-pub use run::{run, Options};
+pub use options::Options;
+pub use run::run;

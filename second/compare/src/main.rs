@@ -1,15 +1,20 @@
 //! `compare`: see the README of this workspace.
 #![forbid(unsafe_code)]
 
+use compare::options::HELP;
 use compare::{run, Bridge, Options};
 use std::process::ExitCode;
 
 fn main() -> ExitCode {
     let arguments: Vec<String> = std::env::args().skip(1).collect();
+    if arguments.iter().any(|argument| argument == "--help") {
+        print!("{HELP}");
+        return ExitCode::SUCCESS;
+    }
     let options = match Options::of(&arguments) {
         Ok(options) => options,
         Err(fault) => {
-            eprintln!("{fault}\n{}", compare::run::USAGE);
+            eprintln!("{fault}; compare --help tells the arguments");
             return ExitCode::from(2);
         }
     };

@@ -1,12 +1,13 @@
 //! `overlap`: a table to its first clashing pair and a witness.
 
+use crate::case::Check;
 use crate::lent::{Lent, Value};
-use crate::run::{Check, Options};
+use crate::options::Options;
 use crate::show;
 use crate::wire::{Call, Function, Replies, Requests};
 use cases::{tables, Dice};
 use second::policy::{Policy, Uid};
-use second::{decode, matches, overlap, WITNESS_WORDS};
+use second::{decode, matches, overlap, Answer, Overlap, WITNESS_WORDS};
 
 const TABLE: u32 = 0;
 const WITNESS: u32 = 1;
@@ -23,7 +24,7 @@ pub fn ask(dice: &mut Dice, options: &Options, requests: &mut Requests) -> Check
     let exact = options.exact_witness;
     Box::new(move |replies, mix| {
         let mut expected = before;
-        let plain = overlap(&words, &mut expected).packed();
+        let plain = overlap(&words, &mut expected);
         check_replies(&words, &expected, plain, exact, replies).map_err(|fault| {
             let room = format!("witness of {room} words");
             show::difference(&[show::table(&words), room], fault)
@@ -36,49 +37,59 @@ pub fn ask(dice: &mut Dice, options: &Options, requests: &mut Requests) -> Check
 fn check_replies(
     table: &[u16],
     expected: &[u16],
-    plain: u64,
+    plain: Overlap,
     exact: bool,
     replies: &mut Replies<'_>,
 ) -> Result<(), String> {
     let answer = replies.answer()?;
-    check(table, &replies.shown()?, answer, expected, plain, exact)?;
+    let witness = replies.shown()?;
+    let is_clash = matches!(plain, Overlap::Clash { .. });
+    if exact || !is_clash {
+        show::equal(told(answer), told(plain.answer()))?;
+        witness.check("witness", expected)?;
+    }
+    if is_clash {
+        check_clash(table, &witness, answer, expected, plain)?;
+    }
     replies.shown()?.check("table", table)
 }
 
-fn check(
+/// The stack chosen may differ, and its length with it; all else not.
+fn check_clash(
     table: &[u16],
     witness: &Lent<u16>,
-    answer: u64,
+    answer: Answer,
     expected: &[u16],
-    plain: u64,
-    exact: bool,
+    plain: Overlap,
 ) -> Result<(), String> {
-    let is_clash = |packed: u64| packed >> 32 & 0xFF != 0;
-    if exact || !is_clash(plain) {
-        show::equal(told(answer), told(plain))?;
-        witness.check("witness", expected)?;
-    }
-    if !is_clash(plain) {
-        return Ok(());
-    }
-    // The stack chosen may differ, and its length with it; all else not.
-    let length = 0xFFu64 << 32;
-    show::equal(told(answer & !length), told(plain & !length))?;
-    is_real(table, witness.get(), answer)?;
+    let [lower, higher, length, uid] = answer.rest.to_le_bytes();
+    let with_length = |answer: Answer| {
+        let [lower, higher, _, uid] = answer.rest.to_le_bytes();
+        let rest = u32::from_le_bytes([lower, higher, length, uid]);
+        Answer { rest, ..answer }
+    };
+    show::equal(told(answer), told(with_length(plain.answer())))?;
+    is_real(table, witness.get(), [lower, higher], length, uid)?;
     let mut own = witness.get()[..WITNESS_WORDS].to_vec();
     own.extend_from_slice(&expected[WITNESS_WORDS..]);
     witness.check("witness", &own)
 }
 
 /// Whether the witness is a moment that both entries match, then zeros.
-fn is_real(table: &[u16], witness: &[u16], answer: u64) -> Result<(), String> {
-    let length = (answer >> 32 & 0xFF) as usize;
+fn is_real(
+    table: &[u16],
+    witness: &[u16],
+    pair: [u8; 2],
+    length: u8,
+    uid: u8,
+) -> Result<(), String> {
+    let length = usize::from(length);
     let Some(policy) = decode(table).filter(|_| (1..=WITNESS_WORDS).contains(&length)) else {
         return Err(format!("proved: a stack of {length}"));
     };
     let stack = &witness[..length];
-    for entry in [answer >> 16 & 0xFF, answer >> 24 & 0xFF] {
-        if !entry_matches(&policy, entry as usize, stack, answer >> 40 & 1) {
+    for entry in pair {
+        if !entry_matches(&policy, entry.into(), stack, uid) {
             return Err(format!("entry {entry} does not match {stack:?}"));
         }
     }
@@ -88,7 +99,7 @@ fn is_real(table: &[u16], witness: &[u16], answer: u64) -> Result<(), String> {
     Ok(())
 }
 
-fn entry_matches(policy: &Policy, entry: usize, stack: &[u16], uid: u64) -> bool {
+fn entry_matches(policy: &Policy, entry: usize, stack: &[u16], uid: u8) -> bool {
     let (Some(entry), Some(&top)) = (policy.entries.get(entry), stack.last()) else {
         return false;
     };
@@ -101,22 +112,16 @@ fn entry_matches(policy: &Policy, entry: usize, stack: &[u16], uid: u64) -> bool
     own && uid_fits && matches(&entry.context.pattern, stack)
 }
 
-fn told(packed: u64) -> String {
-    format!(
-        "refusal {} lower {} higher {} length {} uid {} rest {}",
-        packed & 0xFFFF,
-        packed >> 16 & 0xFF,
-        packed >> 24 & 0xFF,
-        packed >> 32 & 0xFF,
-        packed >> 40 & 1,
-        packed >> 41
-    )
+fn told(answer: Answer) -> String {
+    let Answer { class, value, rest } = answer;
+    let [lower, higher, length, uid] = rest.to_le_bytes();
+    format!("class {class} value {value} lower {lower} higher {higher} length {length} uid {uid}")
 }
 
-fn name(packed: u64) -> String {
-    match (packed & 0xFFFF, packed >> 32 & 0xFF) {
-        (0, 0) => "clear".to_string(),
-        (0, length) => format!("clash of {length:>2}"),
-        (number, _) => format!("refused {number}"),
+fn name(report: Overlap) -> String {
+    match report {
+        Overlap::Clear => "clear".to_string(),
+        Overlap::Clash { length, .. } => format!("clash of {length:>2}"),
+        Overlap::Refused(number) => format!("refused {number}"),
     }
 }

@@ -1,97 +1,13 @@
 //! Runs the functions, case by case, until a difference.
 
 use crate::bridge::Bridge;
+use crate::case::{Check, Mix};
+use crate::options::Options;
 use crate::wire::{Function, Replies, Requests};
 use crate::{judge, overlap, page, well_formed};
 use cases::Dice;
-use std::collections::BTreeMap;
 use std::io::{self, Write};
 use std::ops::Range;
-
-pub const USAGE: &str = "usage: compare [--seed N] [--count N] [--from N] [--only NAME] \
-[--need NAME,NAME] [--exact-witness on|off] [--bridge COMMAND]";
-
-#[derive(Clone, Debug, PartialEq, Eq)]
-pub struct Options {
-    pub seed: u64,
-    pub count: u64,
-    /// The first case.
-    pub from: u64,
-    pub only: Option<String>,
-    /// Functions without which nothing is compared.
-    pub need: Vec<String>,
-    /// Whether the witness must be the lowest of the shortest.
-    pub exact_witness: bool,
-    /// The command that runs the bridge, if not the usual one.
-    pub bridge: Option<String>,
-}
-
-impl Default for Options {
-    fn default() -> Options {
-        Options {
-            seed: 1,
-            count: 10_000,
-            from: 0,
-            only: None,
-            need: Vec::new(),
-            exact_witness: true,
-            bridge: None,
-        }
-    }
-}
-
-impl Options {
-    pub fn of(arguments: &[String]) -> Result<Options, String> {
-        let mut options = Options::default();
-        let mut left = arguments.iter();
-        while let Some(name) = left.next() {
-            let value = left.next().ok_or(format!("{name} needs a value"))?;
-            let number = || value.parse().map_err(|_| format!("{value} is no number"));
-            match name.as_str() {
-                "--seed" => options.seed = number()?,
-                "--count" => options.count = number()?,
-                "--from" => options.from = number()?,
-                "--only" => options.only = Some(known(value)?),
-                "--need" => {
-                    options.need = value.split(',').map(known).collect::<Result<_, _>>()?;
-                }
-                "--bridge" => options.bridge = Some(value.clone()),
-                "--exact-witness" => match value.as_str() {
-                    "on" => options.exact_witness = true,
-                    "off" => options.exact_witness = false,
-                    _ => return Err("--exact-witness is on or off".to_string()),
-                },
-                _ => return Err(format!("{name} is unknown")),
-            }
-        }
-        Ok(options)
-    }
-}
-
-/// The name of a function.
-fn known(name: &str) -> Result<String, String> {
-    let names = Function::ALL.map(Function::name);
-    match names.contains(&name) {
-        true => Ok(name.to_string()),
-        false => Err(format!("{name} is none of: {}", names.join(", "))),
-    }
-}
-
-/// How often each outcome came.
-#[derive(Debug, Default)]
-pub struct Mix {
-    counts: BTreeMap<String, u64>,
-}
-
-impl Mix {
-    pub fn count(&mut self, outcome: impl ToString) {
-        *self.counts.entry(outcome.to_string()).or_default() += 1;
-    }
-}
-
-/// Checks the replies to one case: nothing, or inputs and answers of a
-/// difference.
-pub type Check = Box<dyn FnOnce(&mut Replies<'_>, &mut Mix) -> Result<(), String>>;
 
 /// Makes one case and asks for it.
 type Ask = fn(&mut Dice, &Options, &mut Requests) -> Check;

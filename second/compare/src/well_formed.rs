@@ -1,6 +1,7 @@
 //! `well_formed`: a table to yes or no.
 
-use crate::run::{Check, Options};
+use crate::case::Check;
+use crate::options::Options;
 use crate::show;
 use crate::wire::{Call, Function, Replies, Requests};
 use cases::{tables, Dice};
@@ -24,7 +25,7 @@ pub fn ask(dice: &mut Dice, _: &Options, requests: &mut Requests) -> Check {
 }
 
 fn check(words: &[u16], plain: bool, replies: &mut Replies<'_>) -> Result<(), String> {
-    let answer = match replies.answer()? {
+    let answer = match replies.number()? {
         0 => "false".to_string(),
         1 => "true".to_string(),
         other => other.to_string(),

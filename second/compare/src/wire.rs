@@ -1,6 +1,7 @@
 //! What goes over the bridge. `bridge/bridge.c` says how it is laid out.
 
 use crate::lent::{Lent, Value};
+use second::Answer;
 
 /// The functions in the order of their numbers on the bridge.
 #[derive(Clone, Copy, Debug, PartialEq, Eq)]
@@ -152,11 +153,15 @@ impl<'r> Replies<'r> {
         Ok(taken)
     }
 
-    /// The reply to a call: its answer; to `time`: nanoseconds, then the sum
-    /// of the answers.
-    pub fn answer(&mut self) -> Result<u64, String> {
+    /// The reply to `time`: nanoseconds, then the sum of the answers.
+    pub fn number(&mut self) -> Result<u64, String> {
         let low_first = |number, &byte| number << 8 | u64::from(byte);
         Ok(self.take(8)?.iter().rev().fold(0, low_first))
+    }
+
+    /// The reply to a call.
+    pub fn answer(&mut self) -> Result<Answer, String> {
+        self.number().map(Answer::of)
     }
 
     fn bytes(&mut self) -> Result<&'r [u8], String> {

@@ -74,19 +74,29 @@ fn wrong_judges_are_found() {
         found(
             "all is inside one domain",
             &only,
-            &["class 0 value 0", "OwnEvent", "stack: [", &replay],
+            &[
+                "proved: Answer { class: 3, value: 0",
+                "OwnEvent",
+                "stack: [",
+                &replay,
+            ],
+        );
+        found(
+            "a verdict is no answer",
+            &only,
+            &["proved: Answer { class: 0, value: 0, rest: 0 }"],
         );
         found(
             "gid is not looked at",
             &only,
-            &["proved: \"class 1", "plain:  \"class"],
+            &["proved: Answer { class: 4", "plain:  Answer { class: 2"],
         );
     }
     // A table is lent for many events and looked at after the last.
     found(
         "a table is changed",
         "--only judge_known",
-        &["proved: \"class 3 value 20\""],
+        &["proved: Answer { class: 1, value: 20,"],
     );
     found(
         "a word before the table is changed",
@@ -105,8 +115,8 @@ fn wrong_reports_are_found() {
         "every table is clear",
         only,
         &[
-            "proved: \"refusal 0 lower 0",
-            "plain:  \"refusal",
+            "proved: \"class 3 value 0 lower 0",
+            "plain:  \"class",
             "witness of",
         ],
     );
@@ -135,7 +145,7 @@ fn a_longer_real_witness_passes_only_without_exact() {
 #[test]
 fn wrong_pages_are_found() {
     let only = "--only page";
-    found("every page is fine", only, &["text of", "number 0"]);
+    found("every page is fine", only, &["text of", "class 2 number 0"]);
     found("a line is one too small", only, &["number 9"]);
 }
 
@@ -180,8 +190,32 @@ fn the_program_tells_a_difference_by_its_status() {
     let (status, printed) = run("every page is fine", &["--only", "page"]);
     assert_eq!(status, Some(1));
     assert!(printed.starts_with("page: difference at seed 1, case"));
+    let (status, printed) = run("", &["--help"]);
+    assert_eq!(status, Some(0));
+    for name in ["--seed", "--exact-witness", "judge_known"] {
+        assert!(printed.contains(name), "{printed}");
+    }
     assert_eq!(run("", &["--strange", "1"]).0, Some(2));
     assert_eq!(run("", &["--bridge", "no-such-bridge"]).0, Some(2));
+}
+
+#[test]
+fn bench_times_a_stand_in_and_finds_other_answers() {
+    let run = |fault: &str| {
+        let mut command = Command::new(env!("CARGO_BIN_EXE_bench"));
+        command.env("STAND_IN", fault).args(["--bridge", STAND_IN]);
+        command.args(["--events", "40"]).output().unwrap()
+    };
+    let timed = run("");
+    let printed = String::from_utf8(timed.stdout).unwrap();
+    assert!(timed.status.success(), "{printed}");
+    for row in ["the table test", "the report", "a page", "64 frames"] {
+        assert!(printed.contains(row), "{printed}");
+    }
+    let wrong = run("all is inside one domain");
+    assert!(!wrong.status.success());
+    let said = String::from_utf8(wrong.stderr).unwrap();
+    assert!(said.starts_with("answers differ"), "{said}");
 }
 
 #[test]

@@ -1,5 +1,6 @@
 //! The judge: table and event to verdict.
 
+use crate::answer::{Answer, REFUSED};
 use crate::matching::matches;
 use crate::policy::{Context, Descriptor, Element, Entry, Gid, Policy, Uid};
 use crate::refusal::{ALLOCATION, NOT_WELL_FORMED, OPERATION, STACK};
@@ -42,7 +43,7 @@ pub struct Event<'e> {
     pub allocation_gid: u32,
 }
 
-#[derive(Clone, Copy, Debug, PartialEq, Eq)]
+#[derive(Clone, Copy, Debug, PartialEq, Eq, Hash)]
 pub enum Verdict {
     /// Allowed inside one domain.
     Inside,
@@ -55,15 +56,16 @@ pub enum Verdict {
 }
 
 impl Verdict {
-    /// Class times 65,536 and value, as the compared functions answer.
-    pub fn packed(self) -> u32 {
+    /// Classes 1 to 4 and the value of each.
+    pub fn answer(self) -> Answer {
         let (class, value) = match self {
-            Verdict::Inside => (0, 0),
-            Verdict::Allowed(entry) => (1, entry),
+            Verdict::Refused(number) => (REFUSED, number),
             Verdict::Violation(number) => (2, number),
-            Verdict::Refused(number) => (3, number),
+            Verdict::Inside => (3, 0),
+            Verdict::Allowed(entry) => (4, entry),
         };
-        class << 16 | u32::from(value)
+        let rest = 0;
+        Answer { class, value, rest }
     }
 }
 
@@ -117,27 +119,33 @@ fn verdict(
     if is_code && domain == subject {
         return Verdict::Inside;
     }
-    let mut any = false;
-    for (number, entry) in policy.entries.iter().enumerate() {
-        if entry.subject == subject && entry_matches(entry, event) {
-            any = true;
-            if grants(entry, operation, domain, event) {
-                return Verdict::Allowed(number as u16);
-            }
-        }
+    let entries = &policy.entries;
+    let Some(first) = entries
+        .iter()
+        .position(|e| entry_matches(e, subject, event))
+    else {
+        return Verdict::Violation(3);
+    };
+    // Few entries grant, and to ask for that is quick: so it is asked first.
+    let allows = |entry: &Entry| {
+        grants(entry, operation, domain, event) && entry_matches(entry, subject, event)
+    };
+    match entries[first..].iter().position(allows) {
+        Some(after) => Verdict::Allowed((first + after) as u16),
+        None => Verdict::Violation(4),
     }
-    Verdict::Violation(if any { 4 } else { 3 })
 }
 
-/// "The pattern matches the whole stack, and uid fits (`root` is 0, `user` is
-/// not 0, a variable binds anything)." Any gid fits.
-fn entry_matches(entry: &Entry, event: &Event<'_>) -> bool {
+/// "An entry matches when the top frame's domain is its subject, the pattern
+/// matches the whole stack, and uid fits (`root` is 0, `user` is not 0, a
+/// variable binds anything)." Any gid fits.
+fn entry_matches(entry: &Entry, subject: u16, event: &Event<'_>) -> bool {
     let uid = match entry.context.uid {
         Uid::All | Uid::Variable => true,
         Uid::Root => event.uid == 0,
         Uid::User => event.uid != 0,
     };
-    uid && matches(&entry.context.pattern, event.stack)
+    entry.subject == subject && uid && matches(&entry.context.pattern, event.stack)
 }
 
 fn grants(entry: &Entry, operation: Operation, domain: u16, event: &Event<'_>) -> bool {

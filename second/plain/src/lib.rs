@@ -4,6 +4,7 @@
 //! is that it can disagree.
 #![forbid(unsafe_code)]
 
+pub mod answer;
 pub mod file;
 pub mod filler;
 pub mod judge;
@@ -20,6 +21,7 @@ pub mod scalars;
 pub mod table;
 pub mod text;
 
+pub use answer::Answer;
 pub use filler::{fill, filled};
 pub use judge::{judge, Event, Operation, Verdict};
 pub use lookup::{lookup, Map};
@@ -30,3 +32,6 @@ pub use policy::Policy;
 pub use reader::{policy_of, read};
 pub use refusal::Refusal;
 pub use table::{decode, encode, well_formed, TABLE_WORDS};
+
+/// The file of document 01, "A file, filled out".
+pub const EXAMPLE: &str = include_str!("../example.policy");

@@ -6,29 +6,45 @@ use crate::policy::Element;
 ///
 /// "An empty pattern meets an empty stack; a first function equals the first
 /// frame and the rest of the pattern against the rest of the stack matches; a
-/// first `all` either drops out or swallows one frame and stays." Worked from
-/// the pattern's end, so that every rest is looked at once.
+/// first `all` either drops out or swallows one frame and stays." So the
+/// functions after the last `all` are the top frames, those before the first
+/// one the base, and each run of functions in between may be taken where it
+/// first stands: the `all` after it swallows the rest.
 pub fn matches(pattern: &[Element], stack: &[u16]) -> bool {
-    let end = stack.len();
-    // rest[s]: the pattern's rest matches the stack from frame s on.
-    let mut rest = vec![false; end + 1];
-    rest[end] = true;
-    for element in pattern.iter().rev() {
-        match element {
-            Element::Function(function) => {
-                // Going up, rest[s + 1] is still that of the shorter pattern.
-                for s in 0..end {
-                    rest[s] = stack[s] == *function && rest[s + 1];
-                }
-                rest[end] = false;
-            }
-            Element::All => {
-                // Going down, rest[s + 1] is already that of this pattern.
-                for s in (0..end).rev() {
-                    rest[s] = rest[s] || rest[s + 1];
-                }
-            }
-        }
+    let Some(last) = pattern.iter().rposition(is_all) else {
+        return pattern.len() == stack.len() && stands(pattern, stack);
+    };
+    let (below, top) = (&pattern[..last], &pattern[last + 1..]);
+    let Some(under) = stack.len().checked_sub(top.len()) else {
+        return false;
+    };
+    if !stands(top, &stack[under..]) {
+        return false;
     }
-    rest[0]
+    let mut runs = below.split(is_all);
+    let base = runs.next().unwrap_or_default();
+    let mut left = match stack[..under].split_at_checked(base.len()) {
+        Some((frames, left)) if stands(base, frames) => left,
+        _ => return false,
+    };
+    for run in runs.filter(|run| !run.is_empty()) {
+        let Some(at) = left
+            .windows(run.len())
+            .position(|frames| stands(run, frames))
+        else {
+            return false;
+        };
+        left = &left[at + run.len()..];
+    }
+    true
+}
+
+fn is_all(element: &Element) -> bool {
+    *element == Element::All
+}
+
+/// Whether each of these functions is its frame.
+fn stands(functions: &[Element], frames: &[u16]) -> bool {
+    let mut pairs = functions.iter().zip(frames);
+    pairs.all(|(element, frame)| *element == Element::Function(*frame))
 }

@@ -5,8 +5,9 @@
 //! gives the length of a shortest stack that both entries match; the stack
 //! itself is then chosen frame by frame, lowest function first.
 
+use crate::answer::{Answer, REFUSED};
 use crate::matching::matches;
-use crate::policy::{Element, Entry, Policy, Uid};
+use crate::policy::{Element, Entry, Policy, Uid, ELEMENTS};
 use crate::refusal::{NOT_WELL_FORMED, SHORT_WITNESS};
 use crate::table::decode;
 use std::collections::{BTreeSet, HashSet};
@@ -14,44 +15,42 @@ use std::collections::{BTreeSet, HashSet};
 /// The words of the witness that are written.
 pub const WITNESS_WORDS: usize = 32;
 
-#[derive(Clone, Copy, Debug, PartialEq, Eq)]
+#[derive(Clone, Copy, Debug, PartialEq, Eq, Hash)]
 pub enum Overlap {
     Clear,
     Clash {
-        lower: u16,
-        higher: u16,
-        length: u16,
-        uid: u16,
+        lower: u8,
+        higher: u8,
+        length: u8,
+        uid: u8,
     },
     Refused(u16),
 }
 
 impl Overlap {
-    /// Refusal in bits 0 to 15, lower 16 to 23, higher 24 to 31, length 32 to
-    /// 39, uid 40, as the compared function answers.
-    pub fn packed(self) -> u64 {
-        match self {
-            Overlap::Clear => 0,
-            Overlap::Refused(number) => u64::from(number),
+    /// Classes 1 to 3; a clash tells the pair, the length and the uid, each as
+    /// a byte, the first one lowest.
+    pub fn answer(self) -> Answer {
+        let (class, value, rest) = match self {
+            Overlap::Refused(number) => (REFUSED, number, 0),
             Overlap::Clash {
                 lower,
                 higher,
                 length,
                 uid,
-            } => {
-                let pair = u64::from(lower) << 16 | u64::from(higher) << 24;
-                pair | u64::from(length) << 32 | u64::from(uid) << 40
-            }
-        }
+            } => (2, 0, u32::from_le_bytes([lower, higher, length, uid])),
+            Overlap::Clear => (3, 0, 0),
+        };
+        Answer { class, value, rest }
     }
 }
 
 /// A clash: a pair of entries and a stack that both match.
 #[derive(Clone, Debug, PartialEq, Eq)]
 pub struct Clash {
-    pub lower: u16,
-    pub higher: u16,
-    pub uid: u16,
+    pub lower: u8,
+    pub higher: u8,
+    pub uid: u8,
     pub stack: Vec<u16>,
 }
 
@@ -72,7 +71,7 @@ pub fn overlap(table: &[u16], witness: &mut [u16]) -> Overlap {
     Overlap::Clash {
         lower: clash.lower,
         higher: clash.higher,
-        length: clash.stack.len() as u16,
+        length: clash.stack.len() as u8,
         uid: clash.uid,
     }
 }
@@ -84,9 +83,9 @@ pub fn first_clash(policy: &Policy) -> Option<Clash> {
             if let Some(stack) = pair_clash(policy, one, other) {
                 let user = one.context.uid == Uid::User || other.context.uid == Uid::User;
                 return Some(Clash {
-                    lower: lower as u16,
-                    higher: higher as u16,
-                    uid: u16::from(user),
+                    lower: lower as u8,
+                    higher: higher as u8,
+                    uid: u8::from(user),
                     stack,
                 });
             }
@@ -176,14 +175,16 @@ impl<'p> Pair<'p> {
     /// The length of a shortest stack, by breadth-first search over pairs of
     /// places: each layer holds those first reached by one more frame.
     fn shortest(&self) -> Option<usize> {
-        let mut seen = HashSet::from([(0, 0)]);
+        let mut seen = [[false; ELEMENTS + 1]; ELEMENTS + 1];
+        seen[0][0] = true;
+        let mut is_new = |&(p, q): &Places| !std::mem::replace(&mut seen[p][q], true);
         let mut layer = vec![(0, 0)];
         let mut length = 0;
         while !layer.is_empty() {
             length += 1;
             let mut next = Vec::new();
             while let Some(places) = layer.pop() {
-                layer.extend(self.drops(places).filter(|&dropped| seen.insert(dropped)));
+                layer.extend(self.drops(places).filter(&mut is_new));
                 let Some(frame) = self.frames_at(places) else {
                     continue;
                 };
@@ -195,7 +196,7 @@ impl<'p> Pair<'p> {
                 }
                 next.push(after);
             }
-            next.retain(|&places| seen.insert(places));
+            next.retain(&mut is_new);
             layer = next;
         }
         None

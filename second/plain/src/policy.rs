@@ -1,7 +1,5 @@
 //! The meaning of an accepted file: numbers in place of names.
 
-use std::collections::BTreeSet;
-
 pub const DOMAINS: usize = 128;
 pub const MEMBERS: usize = 1_024;
 pub const ENTRIES: usize = 128;
@@ -49,18 +47,44 @@ impl Context {
     }
 }
 
+/// A set of domains: domain d is bit d.
+#[derive(Clone, Copy, Debug, Default, PartialEq, Eq)]
+pub struct DomainSet(u128);
+
+impl DomainSet {
+    pub fn insert(&mut self, domain: u16) {
+        self.0 |= 1 << domain;
+    }
+
+    pub fn contains(self, domain: u16) -> bool {
+        usize::from(domain) < DOMAINS && self.0 >> domain & 1 == 1
+    }
+
+    pub fn iter(self) -> impl Iterator<Item = u16> {
+        (0..DOMAINS as u16).filter(move |&domain| self.contains(domain))
+    }
+}
+
+impl FromIterator<u16> for DomainSet {
+    fn from_iter<I: IntoIterator<Item = u16>>(domains: I) -> DomainSet {
+        let mut set = DomainSet::default();
+        domains.into_iter().for_each(|domain| set.insert(domain));
+        set
+    }
+}
+
 /// The domains that are granted.
 #[derive(Clone, Debug, PartialEq, Eq)]
 pub enum Grant {
     All,
-    Domains(BTreeSet<u16>),
+    Domains(DomainSet),
 }
 
 impl Grant {
     pub fn holds(&self, domain: u16) -> bool {
         match self {
             Grant::All => true,
-            Grant::Domains(domains) => domains.contains(&domain),
+            Grant::Domains(domains) => domains.contains(domain),
         }
     }
 
@@ -68,7 +92,7 @@ impl Grant {
     fn below(&self, count: u16) -> bool {
         match self {
             Grant::All => true,
-            Grant::Domains(domains) => domains.iter().all(|&domain| domain < count),
+            Grant::Domains(domains) => domains.iter().all(|domain| domain < count),
         }
     }
 }

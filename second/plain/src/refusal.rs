@@ -1,5 +1,7 @@
 //! Document 01, "Numbers that come back".
 
+use crate::answer::{Answer, REFUSED};
+
 /// A number and the line it is about; line 0 for all but 3 to 11.
 #[derive(Clone, Copy, Debug, PartialEq, Eq)]
 pub struct Refusal {
@@ -43,9 +45,13 @@ impl Refusal {
         Some(Refusal::at(number, line))
     }
 
-    /// Number in bits 0 to 15 and line in bits 32 to 63, 0 for none, as the
-    /// compared functions answer.
-    pub fn packed(refusal: Option<Refusal>) -> u64 {
-        refusal.map_or(0, |r| u64::from(r.number) | u64::from(r.line) << 32)
+    /// What is answered to a text: a refusal with its number and line, or
+    /// class 2, accepted.
+    pub fn answer(refusal: Option<Refusal>) -> Answer {
+        let (class, value, rest) = match refusal {
+            Some(refusal) => (REFUSED, refusal.number, refusal.line),
+            None => (2, 0, 0),
+        };
+        Answer { class, value, rest }
     }
 }

@@ -1,9 +1,9 @@
 //! The rules over a whole file: 6, 7, 8, 10, 11, in that order.
 
 use crate::file::{Access, Context, Domain, Entry, File, Item, List, Listed, Word};
-use crate::policy::{self, first_repeat, Descriptor, Element, Gid, Grant, Policy, Uid};
+use crate::policy::{self, first_repeat, Descriptor, DomainSet, Element, Gid, Grant, Policy, Uid};
 use crate::refusal::{Refusal, COUNT, SAME_PRINCIPAL, TWICE, UNBOUND, UNKNOWN};
-use std::collections::{BTreeSet, HashMap, HashSet};
+use std::collections::{HashMap, HashSet};
 
 /// The meaning of a file whose page is in order.
 pub fn policy(file: &File<'_>) -> Result<Policy, Refusal> {
@@ -194,7 +194,7 @@ impl<'t> Numbers<'t> {
         let Listed::Names(list) = listed else {
             return Grant::All;
         };
-        let mut domains = BTreeSet::new();
+        let mut domains = DomainSet::default();
         for name in &list.elements {
             // "A name of the other map is not in this one" (point 17).
             let number = if objects {

@@ -4,7 +4,6 @@ use crate::policy::{
     Context, Descriptor, Element, Entry, Gid, Grant, Policy, Uid, DESCRIPTORS, DOMAINS, ELEMENTS,
     ENTRIES, MEMBERS,
 };
-use std::collections::BTreeSet;
 
 /// How many words a table needs.
 pub const TABLE_WORDS: usize = 16_384;
@@ -20,7 +19,7 @@ pub const DESCRIPTORS_AT: usize = 7_712;
 pub const DESCRIPTOR_WORDS: usize = 32;
 pub const UNUSED_AT: usize = 15_904;
 
-const PATTERN_AT: usize = 4;
+pub const PATTERN_AT: usize = 4;
 const SUBJECT_AT: usize = 20;
 const READS_AT: usize = 21;
 const WRITES_AT: usize = 22;
@@ -114,7 +113,7 @@ fn put_grant(block: &mut [u16], grant: &Grant) {
     match grant {
         Grant::All => block[0] = 1,
         Grant::Domains(domains) => {
-            for domain in domains {
+            for domain in domains.iter() {
                 block[1 + usize::from(domain / 16)] |= 1 << (domain % 16);
             }
         }
@@ -211,10 +210,7 @@ fn get_context(block: &[u16]) -> Option<Context> {
 fn get_grant(block: &[u16], count: u16) -> Option<Grant> {
     let is_set = |domain: &u16| block[1 + usize::from(domain / 16)] >> (domain % 16) & 1 == 1;
     match block[0] {
-        0 => {
-            let domains: BTreeSet<u16> = (0..count).filter(is_set).collect();
-            Some(Grant::Domains(domains))
-        }
+        0 => Some(Grant::Domains((0..count).filter(is_set).collect())),
         1 => Some(Grant::All),
         _ => None,
     }

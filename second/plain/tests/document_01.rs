@@ -2,27 +2,6 @@
 
 use second::policy::{Context, Descriptor, Element, Entry, Gid, Grant, Policy, Uid};
 use second::*;
-use std::collections::BTreeSet;
-
-const EXAMPLE: &str = "object_map:
-- name: Meter
-  objects: [GLOBAL|m.c|4|kwh]
-subject_map:
-- name: Main
-  subjects: [m.c|main]
-- name: Bill
-  subjects: [b.c|add, b.c|sum]
-privileges:
-- principal:
-    subject: Bill
-    execution_context:
-      uid: U
-  can_call: []
-  can_return: [Main]
-  can_read:
-  - objects: [Meter]
-  can_write:
-";
 
 const FILLED: &str = "- principal:
     subject: Bill
@@ -84,16 +63,15 @@ fn the_example_is_filled_as_shown() {
 #[test]
 fn trials_p1_to_p7() {
     let table = table_of(EXAMPLE);
-    let judged = |stack: &[u16], operation, target| {
-        judge(&table, operation, target, &event(stack, 5)).packed()
-    };
-    assert_eq!(judged(&[0, 1], 4, 0), Verdict::Allowed(0).packed(), "P1");
-    assert_eq!(judged(&[0, 1], 3, 2), Verdict::Inside.packed(), "P2");
-    assert_eq!(judged(&[0, 1], 3, 0), Verdict::Violation(4).packed(), "P3");
-    assert_eq!(judged(&[0], 3, 1), Verdict::Violation(3).packed(), "P4");
-    assert_eq!(judged(&[0, 9], 3, 0), Verdict::Violation(1).packed(), "P5");
-    assert_eq!(judged(&[0, 1], 1, 7), Verdict::Violation(2).packed(), "P6");
-    assert_eq!(judged(&[0, 1], 1, 0), Verdict::Allowed(0).packed(), "P7");
+    let judged =
+        |stack: &[u16], operation, target| judge(&table, operation, target, &event(stack, 5));
+    assert_eq!(judged(&[0, 1], 4, 0), Verdict::Allowed(0), "P1");
+    assert_eq!(judged(&[0, 1], 3, 2), Verdict::Inside, "P2");
+    assert_eq!(judged(&[0, 1], 3, 0), Verdict::Violation(4), "P3");
+    assert_eq!(judged(&[0], 3, 1), Verdict::Violation(3), "P4");
+    assert_eq!(judged(&[0, 9], 3, 0), Verdict::Violation(1), "P5");
+    assert_eq!(judged(&[0, 1], 1, 7), Verdict::Violation(2), "P6");
+    assert_eq!(judged(&[0, 1], 1, 0), Verdict::Allowed(0), "P7");
 }
 
 /// Two entries for Bill with these call contexts and uids.
@@ -119,7 +97,7 @@ fn report(one: (&str, &str), other: (&str, &str)) -> (Overlap, Vec<u16>) {
     (answer, witness)
 }
 
-fn clash(length: u16, uid: u16) -> Overlap {
+fn clash(length: u8, uid: u8) -> Overlap {
     Overlap::Clash {
         lower: 0,
         higher: 1,
@@ -317,7 +295,7 @@ fn may_read(object: &Context, allocation: &[u16], uids: (u32, u32), gids: (u32, 
         can_call: Grant::All,
         can_return: Grant::All,
         can_read: vec![Descriptor {
-            objects: Grant::Domains(BTreeSet::from([0])),
+            objects: Grant::Domains([0].into_iter().collect()),
             context: object.clone(),
         }],
         can_write: vec![],

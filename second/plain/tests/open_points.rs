@@ -514,7 +514,13 @@ fn points_19_and_20_judge_and_report() {
     assert_eq!(overlap(&none, &mut witness), Overlap::Clear);
     // Functions may lie in domains in any order: the top is the lowest of it.
     let any = encode(&policy(vec![2, 0, 1, 0, 1], 3, entries)).unwrap();
-    assert_eq!(overlap(&any, &mut witness).packed(), 1 << 32 | 1 << 24);
+    let clash = Overlap::Clash {
+        lower: 0,
+        higher: 1,
+        length: 1,
+        uid: 0,
+    };
+    assert_eq!(overlap(&any, &mut witness), clash);
     assert_eq!(witness[..2], [2, 0]);
     // Frames below the top may be unlisted.
     let event = Event {

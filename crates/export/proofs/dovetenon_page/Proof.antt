@@ -1,3 +1,4 @@
+-- The reading is known, and so is its number.
 use Rattle.export.proofs.Laws.{packs-reading}
 use borrow.Author.Needs.{needs}
 use Rattle.export.proofs.dovetenon_page.Statement.{statement}

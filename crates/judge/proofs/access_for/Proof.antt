@@ -1,3 +1,4 @@
+-- Each operation by its clause.
 use Rattle.judge.proofs.Laws.{is-read, is-write, is-call, is-return}
 use borrow.Author.Needs.{needs}
 use Rattle.judge.proofs.access_for.Statement.{statement}

@@ -1,3 +1,4 @@
+-- An empty allocation stack means a static object.
 use Rattle.judge.proofs.Laws.{static-object, allocated-object}
 use borrow.Author.Needs.{needs}
 use Rattle.judge.proofs.context_fits_object.Statement.{statement}

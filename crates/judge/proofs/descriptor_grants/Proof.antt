@@ -1,25 +1,23 @@
-use Rattle.judge.proofs.Laws.{domain-missing, context-decides}
+-- The grant that fails decides, then the context.
+use Rattle.judge.proofs.Laws.{target-not-granted, context-decides}
 use borrow.Author.Needs.{needs}
 use Rattle.judge.proofs.descriptor_grants.Statement.{statement}
 use Rattle.judge.proofs.descriptor_grants.Tie as tie
 
-mul-at : tie.Need-mul-at
-mul-at c = search needs
-
-add-at : tie.Need-add-at
-add-at c = search needs
-
-add-grant-holds : tie.Need-add-grant-holds
-add-grant-holds c = search needs
+descriptor-at-requires : tie.Need-descriptor-at-requires
+descriptor-at-requires c κs = search needs
 
 count-requires : tie.Need-count-requires
 count-requires c κs = search needs
+
+add-grant-holds : tie.Need-add-grant-holds
+add-grant-holds c = search needs
 
 grant-holds-requires : tie.Need-grant-holds-requires
 grant-holds-requires c κs = search needs
 
 returns : tie.Need-returns
-returns c = search (needs, domain-missing)
+returns c = search (needs, target-not-granted)
 
 context-fits-object-requires : tie.Need-context-fits-object-requires
 context-fits-object-requires c κs = search needs
@@ -31,10 +29,9 @@ pub descriptor-grants-spec : {M : Type 1} → statement M
 descriptor-grants-spec =
     tie.close
     (tie.spec
-    mul-at
-    add-at
-    add-grant-holds
+    descriptor-at-requires
     count-requires
+    add-grant-holds
     grant-holds-requires
     returns
     context-fits-object-requires

@@ -1,13 +1,11 @@
-use Rattle.judge.proofs.Laws.{other-subject, other-stack, other-uid, gid-decides}
+-- Each test that fails decides, and the pattern once none did.
+use Rattle.judge.proofs.Laws.{other-subject, other-uid, other-gid, pattern-decides}
 use borrow.Author.Needs.{needs}
 use Rattle.judge.proofs.entry_matches.Statement.{statement}
 use Rattle.judge.proofs.entry_matches.Tie as tie
 
-mul-at : tie.Need-mul-at
-mul-at c = search needs
-
-add-at : tie.Need-add-at
-add-at c = search needs
+entry-at-requires : tie.Need-entry-at-requires
+entry-at-requires c κs = search needs
 
 add-word : tie.Need-add-word
 add-word c = search needs
@@ -15,20 +13,8 @@ add-word c = search needs
 word-requires : tie.Need-word-requires
 word-requires c κs = search needs
 
-top-lies-in-requires : tie.Need-top-lies-in-requires
-top-lies-in-requires c κs = search needs
-
 returns : tie.Need-returns
 returns c = search (needs, other-subject)
-
-pattern-at-requires : tie.Need-pattern-at-requires
-pattern-at-requires c κs = search needs
-
-matches-stack-requires : tie.Need-matches-stack-requires
-matches-stack-requires c κs = search needs
-
-returns-2 : tie.Need-returns-2
-returns-2 c = search (needs, other-stack)
 
 add-word-2 : tie.Need-add-word-2
 add-word-2 c = search needs
@@ -39,8 +25,8 @@ word-requires-2 c κs = search needs
 sort-fits-requires : tie.Need-sort-fits-requires
 sort-fits-requires c κs = search needs
 
-returns-3 : tie.Need-returns-3
-returns-3 c = search (needs, other-uid)
+returns-2 : tie.Need-returns-2
+returns-2 c = search (needs, other-uid)
 
 add-word-3 : tie.Need-add-word-3
 add-word-3 c = search needs
@@ -51,27 +37,34 @@ word-requires-3 c κs = search needs
 sort-fits-requires-2 : tie.Need-sort-fits-requires-2
 sort-fits-requires-2 c κs = search needs
 
+returns-3 : tie.Need-returns-3
+returns-3 c = search (needs, other-gid)
+
+pattern-at-requires : tie.Need-pattern-at-requires
+pattern-at-requires c κs = search needs
+
+matches-stack-requires : tie.Need-matches-stack-requires
+matches-stack-requires c κs = search needs
+
 returns-4 : tie.Need-returns-4
-returns-4 c = search (needs, gid-decides)
+returns-4 c = search (needs, pattern-decides)
 
 pub entry-matches-spec : {M : Type 1} → statement M
 entry-matches-spec =
     tie.close
     (tie.spec
-    mul-at
-    add-at
+    entry-at-requires
     add-word
     word-requires
-    top-lies-in-requires
     returns
-    pattern-at-requires
-    matches-stack-requires
-    returns-2
     add-word-2
     word-requires-2
     sort-fits-requires
-    returns-3
+    returns-2
     add-word-3
     word-requires-3
     sort-fits-requires-2
+    returns-3
+    pattern-at-requires
+    matches-stack-requires
     returns-4)

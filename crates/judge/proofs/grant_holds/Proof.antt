@@ -1,4 +1,5 @@
-use Rattle.judge.proofs.Laws.{grants-all, grants-past, grants-listed}
+-- Every listed domain, none past the count, else those of the set.
+use Rattle.judge.proofs.Laws.{every-granted, past-not-granted, set-decides}
 use borrow.Author.Needs.{needs}
 use Rattle.judge.proofs.grant_holds.Statement.{statement}
 use Rattle.judge.proofs.grant_holds.Tie as tie
@@ -7,10 +8,10 @@ word-requires : tie.Need-word-requires
 word-requires c κs = search needs
 
 returns : tie.Need-returns
-returns c = search (needs, grants-all)
+returns c = search (needs, every-granted)
 
 returns-2 : tie.Need-returns-2
-returns-2 c = search (needs, grants-past)
+returns-2 c = search (needs, past-not-granted)
 
 add-part : tie.Need-add-part
 add-part c = search needs
@@ -22,7 +23,7 @@ contains-requires : tie.Need-contains-requires
 contains-requires c κs = search needs
 
 returns-3 : tie.Need-returns-3
-returns-3 c = search (needs, grants-listed)
+returns-3 c = search (needs, set-decides)
 
 pub grant-holds-spec : {M : Type 1} → statement M
 grant-holds-spec =

@@ -1,3 +1,4 @@
+-- A table that is not well formed is refused, any other judged as it stands.
 use Rattle.judge.proofs.Laws.{table-refused, table-judged}
 use borrow.Author.Needs.{needs}
 use Rattle.judge.proofs.judge.Statement.{statement}

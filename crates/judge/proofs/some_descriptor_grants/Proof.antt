@@ -1,20 +1,21 @@
-use Rattle.judge.specs.Moments.{momentOf}
-use Rattle.paper.specs.Match.{descriptorGrants}
+-- The loop: what is left of the descriptors answers as all of them do.
+use Rattle.judge.specs.Moments.{binding, allocationOf}
+use Rattle.paper.specs.Match.{descriptorGrants, someDescriptorGrants}
 use Rattle.paper.specs.Table.{descriptorIn}
-use Rattle.paper.specs.Common.{anyOf, countUp}
-use mathlib.Core.List.{[], map}
 use mathlib.Core.Path.{_≡_}
-use Prim.Native.Nat.{_≤_, _+_, _-_}
-use Rattle.judge.proofs.Laws.{some-start, some-found, some-later, some-none}
+use Prim.Native.Nat.{_≤_, _-_}
+use Rattle.judge.proofs.Laws.{someFrom, someOf, some-start, some-found, some-later, some-none}
 use borrow.Author.Needs.{needs}
 use Rattle.judge.proofs.some_descriptor_grants.Statement.{statement}
 use Rattle.judge.proofs.some_descriptor_grants.Tie as tie
 
 abbrev Inv-loop : tie.InvT-loop
-Inv-loop t first n domain ids allocation allocated i₀ i = (i ≤ n) × (anyOf (descriptorGrants domain (momentOf [] ids) (momentOf allocation allocated)) (map (descriptorIn t) (countUp (first + i) (n - i))) ≡ anyOf (descriptorGrants domain (momentOf [] ids) (momentOf allocation allocated)) (map (descriptorIn t) (countUp first n)))
+Inv-loop t first n event allocation i₀ i =
+    let test = descriptorGrants (event .target) (binding event) (allocationOf allocation event) in
+    (i ≤ n) × (someFrom test (descriptorIn t) first n i ≡ someOf test (descriptorIn t) first n)
 
 abbrev μ-loop : tie.MeasureT-loop
-μ-loop t first n domain ids allocation allocated i₀ i = n - i
+μ-loop t first n event allocation i₀ i = n - i
 
 loop-holds : tie.Need-loop-holds Inv-loop μ-loop
 loop-holds c = search (needs, some-start)
@@ -26,6 +27,7 @@ descriptor-grants-requires : tie.Need-descriptor-grants-requires Inv-loop μ-loo
 descriptor-grants-requires c κs = search needs
 
 returns : tie.Need-returns Inv-loop μ-loop
+unfolding someDescriptorGrants
 returns c = search (needs, some-found)
 
 add-i : tie.Need-add-i Inv-loop μ-loop
@@ -38,6 +40,7 @@ loop-again : tie.Need-loop-again Inv-loop μ-loop
 loop-again c = search (needs, some-later)
 
 returns-2 : tie.Need-returns-2 Inv-loop μ-loop
+unfolding someDescriptorGrants
 returns-2 c = search (needs, some-none)
 
 pub some-descriptor-grants-spec : {M : Type 1} → statement M

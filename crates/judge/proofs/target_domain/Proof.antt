@@ -1,4 +1,5 @@
-use Rattle.judge.proofs.Laws.{domain-is}
+-- The domain at the number.
+use Rattle.judge.proofs.Laws.{number-domain}
 use borrow.Author.Needs.{needs}
 use Rattle.judge.proofs.target_domain.Statement.{statement}
 use Rattle.judge.proofs.target_domain.Tie as tie
@@ -16,7 +17,7 @@ word-requires : tie.Need-word-requires
 word-requires c κs = search needs
 
 returns : tie.Need-returns
-returns c = search (needs, domain-is)
+returns c = search (needs, number-domain)
 
 pub target-domain-spec : {M : Type 1} → statement M
 target-domain-spec =

@@ -1,4 +1,5 @@
-use Rattle.judge.proofs.Laws.{number-read, number-write, number-call, number-return}
+-- Each access by its clause.
+use Rattle.paper.specs.Verdict.{targetNumber}
 use borrow.Author.Needs.{needs}
 use Rattle.judge.proofs.target_number.Statement.{statement}
 use Rattle.judge.proofs.target_number.Tie as tie
@@ -16,16 +17,20 @@ enum-known-access-4 : tie.Need-enum-known-access-4
 enum-known-access-4 c = search needs
 
 returns : tie.Need-returns
-returns c = search (needs, number-read)
+unfolding targetNumber
+returns c = search needs
 
 returns-2 : tie.Need-returns-2
-returns-2 c = search (needs, number-write)
+unfolding targetNumber
+returns-2 c = search needs
 
 returns-3 : tie.Need-returns-3
-returns-3 c = search (needs, number-call)
+unfolding targetNumber
+returns-3 c = search needs
 
 returns-4 : tie.Need-returns-4
-returns-4 c = search (needs, number-return)
+unfolding targetNumber
+returns-4 c = search needs
 
 pub target-number-spec : {M : Type 1} → statement M
 target-number-spec =

@@ -1,57 +1,24 @@
-use Rattle.judge.proofs.Laws.{reads-objects, writes-objects, calls-functions, returns-functions}
+-- Code is listed among the functions, data among the objects.
+use Rattle.judge.proofs.Laws.{code-targets, data-targets}
 use borrow.Author.Needs.{needs}
 use Rattle.judge.proofs.targets.Statement.{statement}
 use Rattle.judge.proofs.targets.Tie as tie
 
-enum-told : tie.Need-enum-told
-enum-told c = search needs
-
-objects-requires : tie.Need-objects-requires
-objects-requires c κs = search needs
-
-enum-told-2 : tie.Need-enum-told-2
-enum-told-2 c = search needs
-
-objects-requires-2 : tie.Need-objects-requires-2
-objects-requires-2 c κs = search needs
-
-enum-told-3 : tie.Need-enum-told-3
-enum-told-3 c = search needs
+is-code-requires : tie.Need-is-code-requires
+is-code-requires c κs = search needs
 
 functions-requires : tie.Need-functions-requires
 functions-requires c κs = search needs
 
-enum-told-4 : tie.Need-enum-told-4
-enum-told-4 c = search needs
-
-functions-requires-2 : tie.Need-functions-requires-2
-functions-requires-2 c κs = search needs
-
 returns : tie.Need-returns
-returns c = search (needs, reads-objects)
+returns c = search (needs, code-targets)
+
+objects-requires : tie.Need-objects-requires
+objects-requires c κs = search needs
 
 returns-2 : tie.Need-returns-2
-returns-2 c = search (needs, writes-objects)
-
-returns-3 : tie.Need-returns-3
-returns-3 c = search (needs, calls-functions)
-
-returns-4 : tie.Need-returns-4
-returns-4 c = search (needs, returns-functions)
+returns-2 c = search (needs, data-targets)
 
 pub targets-spec : {M : Type 1} → statement M
 targets-spec =
-    tie.close
-    (tie.spec
-    enum-told
-    objects-requires
-    enum-told-2
-    objects-requires-2
-    enum-told-3
-    functions-requires
-    enum-told-4
-    functions-requires-2
-    returns
-    returns-2
-    returns-3
-    returns-4)
+    tie.close (tie.spec is-code-requires functions-requires returns objects-requires returns-2)

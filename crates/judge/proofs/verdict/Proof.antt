@@ -1,4 +1,5 @@
-use Rattle.judge.proofs.Laws.{top-unlisted-is-1, target-unlisted-is-2, inside-is, entries-decide}
+-- Each case in the order of the paper.
+use Rattle.judge.proofs.Laws.{top-unlisted, target-unlisted, event-placed, stays-inside, entries-decide}
 use borrow.Author.Needs.{needs}
 use Rattle.judge.proofs.verdict.Statement.{statement}
 use Rattle.judge.proofs.verdict.Tie as tie
@@ -13,28 +14,34 @@ functions-requires : tie.Need-functions-requires
 functions-requires c κs = search needs
 
 returns : tie.Need-returns
-returns c = search (needs, top-unlisted-is-1)
+returns c = search (needs, top-unlisted)
 
 target-listed-requires : tie.Need-target-listed-requires
 target-listed-requires c κs = search needs
 
 returns-2 : tie.Need-returns-2
-returns-2 c = search (needs, target-unlisted-is-2)
+returns-2 c = search (needs, target-unlisted)
 
-mul-inside-one-domain : tie.Need-mul-inside-one-domain
-mul-inside-one-domain c = search needs
+mul-t11 : tie.Need-mul-t11
+mul-t11 c = search needs
 
-shared-slice-read-inside-one-domain : tie.Need-shared-slice-read-inside-one-domain
-shared-slice-read-inside-one-domain c = search needs
+shared-slice-read-t10 : tie.Need-shared-slice-read-t10
+shared-slice-read-t10 c = search needs
+
+target-domain-requires : tie.Need-target-domain-requires
+target-domain-requires c κs = search needs
+
+cast-t16 : tie.Need-cast-t16
+cast-t16 c = search needs
 
 inside-one-domain-requires : tie.Need-inside-one-domain-requires
 inside-one-domain-requires c κs = search needs
 
 returns-3 : tie.Need-returns-3
-returns-3 c = search (needs, inside-is)
+returns-3 c = search (needs, stays-inside)
 
 by-entries-requires : tie.Need-by-entries-requires
-by-entries-requires c κs = search needs
+by-entries-requires c κs = search (needs, event-placed)
 
 returns-4 : tie.Need-returns-4
 returns-4 c = search (needs, entries-decide)
@@ -49,8 +56,10 @@ verdict-spec =
     returns
     target-listed-requires
     returns-2
-    mul-inside-one-domain
-    shared-slice-read-inside-one-domain
+    mul-t11
+    shared-slice-read-t10
+    target-domain-requires
+    cast-t16
     inside-one-domain-requires
     returns-3
     by-entries-requires

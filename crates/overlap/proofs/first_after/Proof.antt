@@ -1,18 +1,19 @@
+-- The loop: no pair before i and j clashes, and the words past the witness are kept.
 use Prim.Native.Nat.{_-_, _<_}
-use borrow.Author.Needs.{needs}
-use lib.ListN.{length, drop}
-use mathlib.Core.Path.{_≡_}
 use native.Mathlib.Omega.{arith}
+use mathlib.Core.Path.{_≡_}
+use lib.ListN.{length}
+use borrow.Author.Needs.{needs}
 use Rattle.overlap.proofs.Pairs.{none-row, none-more, none-done, past-none, clashing}
-use Rattle.overlap.specs.Told.{NoneBefore}
+use Rattle.overlap.specs.Told.{NoneBefore, PastKept}
 use Rattle.overlap.proofs.first_after.Statement.{statement}
 use Rattle.overlap.proofs.first_after.Tie as tie
 
 abbrev Inv-loop : tie.InvT-loop
-Inv-loop table i witness₀ n j₀ witness j = (i < j) × (length witness ≡ length witness₀) × (drop 32 witness ≡ drop 32 witness₀) × NoneBefore table i j
+Inv-loop t i witness₀ n j₀ witness j = (i < j) × (length witness ≡ length witness₀) × PastKept witness₀ witness × NoneBefore t i j
 
 abbrev μ-loop : tie.MeasureT-loop
-μ-loop table i witness₀ n j₀ witness j = n - j
+μ-loop t i witness₀ n j₀ witness j = n - j
 
 count-requires : tie.Need-count-requires Inv-loop μ-loop
 count-requires c κs = search needs
@@ -23,14 +24,14 @@ add-j c = search needs
 loop-holds : tie.Need-loop-holds Inv-loop μ-loop
 loop-holds c = search (needs, none-row)
 
-pair-requires : tie.Need-pair-requires Inv-loop μ-loop
-pair-requires c κs = search needs
+write-clash-requires : tie.Need-write-clash-requires Inv-loop μ-loop
+write-clash-requires c κs = search needs
 
 same-length : tie.Need-same-length Inv-loop μ-loop
 same-length c = search needs
 
 returns : tie.Need-returns Inv-loop μ-loop
-returns c = let some : c .before .before .before .pair .result ≡ 0 → ⊥ = λ e. omega arith in search (needs, clashing)
+returns c = let some : c .before .before .before .write-clash .result ≡ 0 → ⊥ = λ e. omega arith in search (needs, clashing)
 
 add-j-2 : tie.Need-add-j-2 Inv-loop μ-loop
 add-j-2 c = search needs
@@ -56,7 +57,7 @@ first-after-spec =
     count-requires
     add-j
     loop-holds
-    pair-requires
+    write-clash-requires
     same-length
     returns
     add-j-2

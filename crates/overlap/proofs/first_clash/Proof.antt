@@ -1,18 +1,18 @@
+-- The loop: no pair before row i clashes, and the words past the witness are kept.
 use Prim.Native.Nat.{_-_}
-use borrow.Author.Needs.{needs}
-use lib.ListN.{length, drop}
 use mathlib.Core.Path.{_≡_}
-use Rattle.overlap.proofs.Pairs.{none-start, none-next, none-end, past-next, few-lower, few-higher, few-frames, told-clash, zeros-left-same}
-use Rattle.overlap.proofs.Words.{few-entries}
-use Rattle.overlap.specs.Told.{NoneBefore}
+use lib.ListN.{length}
+use borrow.Author.Needs.{needs}
+use Rattle.overlap.proofs.Pairs.{none-start, none-next, none-end, past-next, higher-listed, few-frames, clash-told, left-same}
+use Rattle.overlap.specs.Told.{NoneBefore, PastKept}
 use Rattle.overlap.proofs.first_clash.Statement.{statement}
 use Rattle.overlap.proofs.first_clash.Tie as tie
 
 abbrev Inv-loop : tie.InvT-loop
-Inv-loop table witness₀ n i₀ witness i = (length witness ≡ length witness₀) × (drop 32 witness ≡ drop 32 witness₀) × NoneBefore table i 0
+Inv-loop t witness₀ n i₀ witness i = (length witness ≡ length witness₀) × PastKept witness₀ witness × NoneBefore t i 0
 
 abbrev μ-loop : tie.MeasureT-loop
-μ-loop table witness₀ n i₀ witness i = n - i
+μ-loop t witness₀ n i₀ witness i = n - i
 
 count-requires : tie.Need-count-requires Inv-loop μ-loop
 count-requires c κs = search needs
@@ -21,19 +21,19 @@ loop-holds : tie.Need-loop-holds Inv-loop μ-loop
 loop-holds c = search (needs, none-start)
 
 first-after-requires : tie.Need-first-after-requires Inv-loop μ-loop
-first-after-requires c κs = search (needs, few-entries)
+first-after-requires c κs = ((search needs, search needs), search needs)
 
 enum-known-higher : tie.Need-enum-known-higher Inv-loop μ-loop
 enum-known-higher c = search needs
 
 clash-of-requires : tie.Need-clash-of-requires Inv-loop μ-loop
-clash-of-requires c κs = search (needs, few-lower, few-higher, few-frames)
+clash-of-requires c κs = search (needs, higher-listed, few-frames)
 
 same-length : tie.Need-same-length Inv-loop μ-loop
 same-length c = search needs
 
 returns : tie.Need-returns Inv-loop μ-loop
-returns c = search (needs, told-clash)
+returns c = search (needs, clash-told)
 
 enum-told : tie.Need-enum-told Inv-loop μ-loop
 enum-told c = search needs
@@ -47,14 +47,14 @@ loop-less c = search needs
 loop-again : tie.Need-loop-again Inv-loop μ-loop
 loop-again c = search (needs, none-next, past-next)
 
-zero-requires : tie.Need-zero-requires Inv-loop μ-loop
-zero-requires c κs = search needs
+clear-witness-requires : tie.Need-clear-witness-requires Inv-loop μ-loop
+clear-witness-requires c κs = search needs
 
 same-length-2 : tie.Need-same-length-2 Inv-loop μ-loop
 same-length-2 c = search needs
 
 returns-2 : tie.Need-returns-2 Inv-loop μ-loop
-returns-2 c = search (needs, none-end, zeros-left-same)
+returns-2 c = search (needs, none-end, left-same)
 
 pub first-clash-spec : {M : Type 1} → statement M
 first-clash-spec =
@@ -73,6 +73,6 @@ first-clash-spec =
     add-i
     loop-less
     loop-again
-    zero-requires
+    clear-witness-requires
     same-length-2
     returns-2)

@@ -1,6 +1,6 @@
+-- The refusals in their order, else what `first_clash` says.
 use borrow.Author.Needs.{needs}
-use Rattle.laws.proofs.Chains.{told-yes}
-use Rattle.overlap.proofs.Reporting.{unformed, no-room, reported, reported-least}
+use Rattle.overlap.proofs.Reporting.{ill-formed, no-room, ready, reported, reported-least}
 use Rattle.overlap.proofs.overlap.Statement.{statement}
 use Rattle.overlap.proofs.overlap.Tie as tie
 
@@ -8,13 +8,13 @@ well-formed-requires : tie.Need-well-formed-requires
 well-formed-requires c κs = search needs
 
 returns : tie.Need-returns
-returns c = search (needs, unformed)
+returns c = search (needs, ill-formed)
 
 returns-2 : tie.Need-returns-2
 returns-2 c = search (needs, no-room)
 
 first-clash-requires : tie.Need-first-clash-requires
-first-clash-requires c κs = search (needs, told-yes)
+first-clash-requires c κs = search (needs, ready)
 
 same-length : tie.Need-same-length
 same-length c = search needs

@@ -1,4 +1,5 @@
-use Rattle.table.proofs.Laws.{uid-unbound, uid-bound}
+-- The uid that fails decides, then the gid.
+use Rattle.table.proofs.Laws.{uid-unbound, gid-decides-bound}
 use borrow.Author.Needs.{needs}
 use Rattle.table.proofs.bound_by.Statement.{statement}
 use Rattle.table.proofs.bound_by.Tie as tie
@@ -37,7 +38,7 @@ sort-bound-requires-2 : tie.Need-sort-bound-requires-2
 sort-bound-requires-2 c κs = search needs
 
 returns-2 : tie.Need-returns-2
-returns-2 c = search (needs, uid-bound)
+returns-2 c = search (needs, gid-decides-bound)
 
 pub bound-by-spec : {M : Type 1} → statement M
 bound-by-spec =

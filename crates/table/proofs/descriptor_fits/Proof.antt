@@ -1,7 +1,5 @@
-use mathlib.Core.Bool.{and-false}
-use Rattle.laws.proofs.Chains.{told-no, told-yes}
-use Rattle.table.proofs.Laws.{grant-no, grant-yes}
-use Rattle.paper.specs.Table.{descriptorFits}
+-- Each test that fails decides, and the unused words once none did.
+use Rattle.table.proofs.Laws.{descriptor-context-no, descriptor-grant-no, descriptor-tail-decides}
 use borrow.Author.Needs.{needs}
 use Rattle.table.proofs.descriptor_fits.Statement.{statement}
 use Rattle.table.proofs.descriptor_fits.Tie as tie
@@ -10,23 +8,19 @@ context-fits-requires : tie.Need-context-fits-requires
 context-fits-requires c κs = search needs
 
 returns : tie.Need-returns
-unfolding descriptorFits
-returns c =
-    simp (told-no _ _ (c .before .context-fits .ensures) (c .if1 .taken))
-
-add-grant-fits : tie.Need-add-grant-fits
-add-grant-fits c = search needs
+returns c = search (needs, descriptor-context-no)
 
 count-requires : tie.Need-count-requires
 count-requires c κs = search needs
+
+add-grant-fits : tie.Need-add-grant-fits
+add-grant-fits c = search needs
 
 grant-fits-requires : tie.Need-grant-fits-requires
 grant-fits-requires c κs = search needs
 
 returns-2 : tie.Need-returns-2
-unfolding descriptorFits
-returns-2 c =
-    simp (grant-no _ _ _ _ _ (c .before .grant-fits .ensures) (c .before .before .count .ensures .0) (c .if2 .taken), and-false)
+returns-2 c = search (needs, descriptor-grant-no)
 
 add-is-zero : tie.Need-add-is-zero
 add-is-zero c = search needs
@@ -35,9 +29,7 @@ is-zero-requires : tie.Need-is-zero-requires
 is-zero-requires c κs = search needs
 
 returns-3 : tie.Need-returns-3
-unfolding descriptorFits
-returns-3 c =
-    simp (told-yes _ _ (c .before .before .before .before .before .context-fits .ensures) (c .before .before .before .before .if1 .left), grant-yes _ _ _ _ _ (c .before .before .grant-fits .ensures) (c .before .before .before .count .ensures .0) (c .before .if2 .left)) (c .is-zero .ensures)
+returns-3 c = search (needs, descriptor-tail-decides)
 
 pub descriptor-fits-spec : {M : Type 1} → statement M
 descriptor-fits-spec =
@@ -45,8 +37,8 @@ descriptor-fits-spec =
     (tie.spec
     context-fits-requires
     returns
-    add-grant-fits
     count-requires
+    add-grant-fits
     grant-fits-requires
     returns-2
     add-is-zero

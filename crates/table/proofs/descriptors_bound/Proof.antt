@@ -1,9 +1,11 @@
+-- The loop: every descriptor so far has its variables bound.
 use Rattle.table.specs.Parts.{descriptorBound}
 use Rattle.paper.specs.Common.{upTo}
 use mathlib.Core.Path.{_≡_}
 use mathlib.Core.Bool.{true}
 use Prim.Native.Nat.{_≤_, _-_}
-use Rattle.laws.proofs.Tests.{upTo-none, tests-again, test-fails, tests-done}
+use Rattle.laws.proofs.Tests.{upTo-none, tests-done}
+use Rattle.table.proofs.Laws.{descriptor-unbound, descriptor-bound}
 use borrow.Author.Needs.{needs}
 use Rattle.table.proofs.descriptors_bound.Statement.{statement}
 use Rattle.table.proofs.descriptors_bound.Tie as tie
@@ -17,20 +19,17 @@ abbrev μ-loop : tie.MeasureT-loop
 loop-holds : tie.Need-loop-holds Inv-loop μ-loop
 loop-holds c = search (needs, upTo-none)
 
-add-bound-by : tie.Need-add-bound-by Inv-loop μ-loop
-add-bound-by c = search needs
+add-descriptor-at : tie.Need-add-descriptor-at Inv-loop μ-loop
+add-descriptor-at c = search needs
 
-mul-bound-by : tie.Need-mul-bound-by Inv-loop μ-loop
-mul-bound-by c = search needs
-
-add-bound-by-2 : tie.Need-add-bound-by-2 Inv-loop μ-loop
-add-bound-by-2 c = search needs
+descriptor-at-requires : tie.Need-descriptor-at-requires Inv-loop μ-loop
+descriptor-at-requires c κs = search needs
 
 bound-by-requires : tie.Need-bound-by-requires Inv-loop μ-loop
 bound-by-requires c κs = search needs
 
 returns : tie.Need-returns Inv-loop μ-loop
-returns c = search (needs, test-fails)
+returns c = search (needs, descriptor-unbound)
 
 add-i : tie.Need-add-i Inv-loop μ-loop
 add-i c = search needs
@@ -39,7 +38,7 @@ loop-less : tie.Need-loop-less Inv-loop μ-loop
 loop-less c = search needs
 
 loop-again : tie.Need-loop-again Inv-loop μ-loop
-loop-again c = search (needs, tests-again)
+loop-again c = search (needs, descriptor-bound)
 
 returns-2 : tie.Need-returns-2 Inv-loop μ-loop
 returns-2 c = search (needs, tests-done)
@@ -51,9 +50,8 @@ descriptors-bound-spec =
     Inv-loop
     μ-loop
     loop-holds
-    add-bound-by
-    mul-bound-by
-    add-bound-by-2
+    add-descriptor-at
+    descriptor-at-requires
     bound-by-requires
     returns
     add-i

@@ -1,3 +1,5 @@
+-- The loop: every block so far fits.
+use Rattle.paper.specs.Limits.{mostDescriptors}
 use Rattle.table.specs.Parts.{descriptorBlockFits}
 use Rattle.paper.specs.Common.{upTo}
 use mathlib.Core.Path.{_≡_}
@@ -9,10 +11,10 @@ use Rattle.table.proofs.descriptors_fit.Statement.{statement}
 use Rattle.table.proofs.descriptors_fit.Tie as tie
 
 abbrev Inv-loop : tie.InvT-loop
-Inv-loop t descriptors d₀ d = (d ≤ 256) × (upTo (descriptorBlockFits t descriptors) d ≡ true)
+Inv-loop t descriptors d₀ d = (d ≤ mostDescriptors) × (upTo (descriptorBlockFits t descriptors) d ≡ true)
 
 abbrev μ-loop : tie.MeasureT-loop
-μ-loop t descriptors d₀ d = 256 - d
+μ-loop t descriptors d₀ d = mostDescriptors - d
 
 loop-holds : tie.Need-loop-holds Inv-loop μ-loop
 loop-holds c = search (needs, upTo-none)

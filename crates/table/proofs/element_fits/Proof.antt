@@ -1,3 +1,4 @@
+-- An element of the pattern is below the count, any other is zero.
 use Rattle.table.proofs.Laws.{listed-element, unused-element}
 use borrow.Author.Needs.{needs}
 use Rattle.table.proofs.element_fits.Statement.{statement}

@@ -1,3 +1,5 @@
+-- The loop: every element so far fits.
+use Rattle.paper.specs.Limits.{mostElements}
 use Rattle.table.specs.Parts.{elementFits}
 use Rattle.paper.specs.Common.{upTo}
 use mathlib.Core.Path.{_≡_}
@@ -9,10 +11,10 @@ use Rattle.table.proofs.elements_fit.Statement.{statement}
 use Rattle.table.proofs.elements_fit.Tie as tie
 
 abbrev Inv-loop : tie.InvT-loop
-Inv-loop t at i₀ i = (i ≤ 16) × (upTo (elementFits t at) i ≡ true)
+Inv-loop t at i₀ i = (i ≤ mostElements) × (upTo (elementFits t at) i ≡ true)
 
 abbrev μ-loop : tie.MeasureT-loop
-μ-loop t at i₀ i = 16 - i
+μ-loop t at i₀ i = mostElements - i
 
 loop-holds : tie.Need-loop-holds Inv-loop μ-loop
 loop-holds c = search (needs, upTo-none)

@@ -1,3 +1,5 @@
+-- The loop: every block so far fits.
+use Rattle.paper.specs.Limits.{mostEntries}
 use Rattle.paper.specs.Table.{entriesFit}
 use Rattle.table.specs.Parts.{entryBlockFits}
 use Rattle.paper.specs.Common.{upTo}
@@ -10,10 +12,10 @@ use Rattle.table.proofs.entries_fit.Statement.{statement}
 use Rattle.table.proofs.entries_fit.Tie as tie
 
 abbrev Inv-loop : tie.InvT-loop
-Inv-loop t k₀ k = (k ≤ 128) × (upTo (entryBlockFits t) k ≡ true)
+Inv-loop t k₀ k = (k ≤ mostEntries) × (upTo (entryBlockFits t) k ≡ true)
 
 abbrev μ-loop : tie.MeasureT-loop
-μ-loop t k₀ k = 128 - k
+μ-loop t k₀ k = mostEntries - k
 
 loop-holds : tie.Need-loop-holds Inv-loop μ-loop
 loop-holds c = search (needs, upTo-none)

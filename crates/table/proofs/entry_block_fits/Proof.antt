@@ -1,13 +1,11 @@
+-- A block below the count is tested, any other is zero.
 use Rattle.table.proofs.Laws.{entry-listed, entry-unused}
 use borrow.Author.Needs.{needs}
 use Rattle.table.proofs.entry_block_fits.Statement.{statement}
 use Rattle.table.proofs.entry_block_fits.Tie as tie
 
-mul-at : tie.Need-mul-at
-mul-at c = search needs
-
-add-at : tie.Need-add-at
-add-at c = search needs
+entry-at-requires : tie.Need-entry-at-requires
+entry-at-requires c κs = search needs
 
 count-requires : tie.Need-count-requires
 count-requires c κs = search needs
@@ -27,4 +25,10 @@ returns-2 c = search (needs, entry-unused)
 pub entry-block-fits-spec : {M : Type 1} → statement M
 entry-block-fits-spec =
     tie.close
-    (tie.spec mul-at add-at count-requires entry-fits-requires is-zero-requires returns returns-2)
+    (tie.spec
+    entry-at-requires
+    count-requires
+    entry-fits-requires
+    is-zero-requires
+    returns
+    returns-2)

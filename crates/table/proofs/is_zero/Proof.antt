@@ -1,3 +1,4 @@
+-- The loop: every word so far is zero.
 use Rattle.table.specs.Parts.{zeroAt}
 use Rattle.paper.specs.Table.{zeros}
 use Rattle.paper.specs.Common.{upTo}

@@ -1,3 +1,4 @@
+-- A member below the count has a listed domain, any other word is zero.
 use Rattle.table.proofs.Laws.{listed-member, unused-member}
 use borrow.Author.Needs.{needs}
 use Rattle.table.proofs.member_fits.Statement.{statement}

@@ -1,3 +1,5 @@
+-- The loop: every word so far fits.
+use Rattle.paper.specs.Limits.{mostMembers}
 use Rattle.paper.specs.Table.{membersFit}
 use Rattle.table.specs.Parts.{memberFits}
 use Rattle.paper.specs.Common.{upTo}
@@ -10,10 +12,10 @@ use Rattle.table.proofs.members_fit.Statement.{statement}
 use Rattle.table.proofs.members_fit.Tie as tie
 
 abbrev Inv-loop : tie.InvT-loop
-Inv-loop t at members domains i₀ i = (i ≤ 1024) × (upTo (memberFits t at members domains) i ≡ true)
+Inv-loop t at members domains i₀ i = (i ≤ mostMembers) × (upTo (memberFits t at members domains) i ≡ true)
 
 abbrev μ-loop : tie.MeasureT-loop
-μ-loop t at members domains i₀ i = 1024 - i
+μ-loop t at members domains i₀ i = mostMembers - i
 
 loop-holds : tie.Need-loop-holds Inv-loop μ-loop
 loop-holds c = search (needs, upTo-none)

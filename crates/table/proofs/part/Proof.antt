@@ -1,3 +1,4 @@
+-- Past the end there is nothing, near it what is left, else all that was asked for.
 use Rattle.table.proofs.Laws.{part-past, part-rest, part-inner}
 use borrow.Author.Needs.{needs}
 use Rattle.table.proofs.part.Statement.{statement}

@@ -1,10 +1,11 @@
-use Rattle.table.proofs.Laws.{twin-found, no-twin-yet}
+-- The loop: no entry so far has the principal.
 use Rattle.table.specs.Parts.{differsFrom}
 use Rattle.paper.specs.Common.{upTo}
 use mathlib.Core.Path.{_≡_}
 use mathlib.Core.Bool.{true}
 use Prim.Native.Nat.{_≤_, _-_}
 use Rattle.laws.proofs.Tests.{upTo-none, tests-done}
+use Rattle.table.proofs.Laws.{twin-found, no-twin-yet}
 use borrow.Author.Needs.{needs}
 use Rattle.table.proofs.principal_is_new.Statement.{statement}
 use Rattle.table.proofs.principal_is_new.Tie as tie
@@ -18,26 +19,8 @@ abbrev μ-loop : tie.MeasureT-loop
 loop-holds : tie.Need-loop-holds Inv-loop μ-loop
 loop-holds c = search (needs, upTo-none)
 
-mul-part : tie.Need-mul-part Inv-loop μ-loop
-mul-part c = search needs
-
-add-part : tie.Need-add-part Inv-loop μ-loop
-add-part c = search needs
-
-part-requires : tie.Need-part-requires Inv-loop μ-loop
-part-requires c κs = search needs
-
-mul-part-2 : tie.Need-mul-part-2 Inv-loop μ-loop
-mul-part-2 c = search needs
-
-add-part-2 : tie.Need-add-part-2 Inv-loop μ-loop
-add-part-2 c = search needs
-
-part-requires-2 : tie.Need-part-requires-2 Inv-loop μ-loop
-part-requires-2 c κs = search needs
-
-same-words-requires : tie.Need-same-words-requires Inv-loop μ-loop
-same-words-requires c κs = search needs
+one-principal-requires : tie.Need-one-principal-requires Inv-loop μ-loop
+one-principal-requires c κs = search needs
 
 returns : tie.Need-returns Inv-loop μ-loop
 returns c = search (needs, twin-found)
@@ -49,8 +32,7 @@ loop-less : tie.Need-loop-less Inv-loop μ-loop
 loop-less c = search needs
 
 loop-again : tie.Need-loop-again Inv-loop μ-loop
-loop-again c =
-    (search needs, no-twin-yet _ _ _ _ _ _ (c .before .before .before .before .before .loop .inv .1) (c .before .before .before .part .ensures) (c .before .before .part2 .ensures) (c .before .same-words .ensures) (c .if1 .left))
+loop-again c = search (needs, no-twin-yet)
 
 returns-2 : tie.Need-returns-2 Inv-loop μ-loop
 returns-2 c = search (needs, tests-done)
@@ -62,13 +44,7 @@ principal-is-new-spec =
     Inv-loop
     μ-loop
     loop-holds
-    mul-part
-    add-part
-    part-requires
-    mul-part-2
-    add-part-2
-    part-requires-2
-    same-words-requires
+    one-principal-requires
     returns
     add-j
     loop-less

@@ -1,3 +1,4 @@
+-- The loop: every principal so far is new.
 use Rattle.table.specs.Parts.{principalIsNew}
 use Rattle.paper.specs.Common.{upTo}
 use mathlib.Core.Path.{_≡_}

@@ -1,3 +1,4 @@
+-- The loop: what is left of both compares as both do.
 use Rattle.paper.specs.Common.{same}
 use mathlib.Core.Path.{_≡_}
 use lib.ListN.{length, drop}

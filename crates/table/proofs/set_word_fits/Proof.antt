@@ -1,3 +1,4 @@
+-- A word with no bit from the used ones up is below that power of two.
 use Rattle.table.proofs.Laws.{set-word}
 use borrow.Author.Needs.{needs}
 use Rattle.table.proofs.set_word_fits.Statement.{statement}

@@ -1,10 +1,11 @@
-use Rattle.table.proofs.Laws.{bound-variable, no-variable}
+-- A variable asks for one, any other sort for nothing.
+use Rattle.table.proofs.Laws.{variable-bound, no-variable}
 use borrow.Author.Needs.{needs}
 use Rattle.table.proofs.sort_bound.Statement.{statement}
 use Rattle.table.proofs.sort_bound.Tie as tie
 
 returns : tie.Need-returns
-returns c = search (needs, bound-variable)
+returns c = search (needs, variable-bound)
 
 returns-2 : tie.Need-returns-2
 returns-2 c = search (needs, no-variable)

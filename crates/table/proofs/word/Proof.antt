@@ -1,3 +1,4 @@
+-- Past the end a word reads as 0.
 use Rattle.table.proofs.Laws.{past-the-end}
 use borrow.Author.Needs.{needs}
 use Rattle.table.proofs.word.Statement.{statement}

@@ -1,10 +1,10 @@
-//! `bench`: how long the plain program and the proved one take: for an event, a
+//! `bench`: how long the plain program and the proved one take for an event, a
 //! report and a page.
 //!
 //! Both judge the same events under the same table, which has 128 entries and
 //! 256 descriptors; both report on a table of 128 full patterns of one subject
-//! with no clash, and read a page of 65,536 bytes. The proved one is timed inside the bridge, so that no pipe
-//! is measured.
+//! with no clash, and read a page of 65,536 bytes. The proved one is timed
+//! inside the bridge, so that no pipe is measured.
 #![forbid(unsafe_code)]
 
 use cases::events::OwnEvent;
@@ -12,7 +12,7 @@ use cases::{full, Dice};
 use compare::wire::{Call, Function, Replies, Requests};
 use compare::{judge, Bridge};
 use second::judge::judge_policy;
-use second::{decode, encode, Refusal, Verdict};
+use second::{decode, encode, Refusal, Verdict, WITNESS_WORDS};
 use std::hint::black_box;
 use std::process::ExitCode;
 use std::time::Instant;
@@ -24,6 +24,9 @@ const RUNS: usize = 5;
 
 /// One event in so many is judged with a test of the table, which takes long.
 const TESTED_SHARE: usize = 20;
+
+/// The slot of the table that events are judged under.
+const TABLE: u32 = 0;
 
 struct Asked {
     events: usize,
@@ -68,6 +71,26 @@ fn main() -> ExitCode {
 
 fn bench(asked: &Asked) -> Result<(), String> {
     let mut bridge = Bridge::start(compare::bridge::command(asked.bridge.as_deref()))?;
+    say_how(&bridge);
+    let mut dice = Dice::new(asked.seed);
+    let words = encode(&full::policy(&mut dice)).ok_or("no table")?;
+    let mut lent = Requests::default();
+    lent.lend(TABLE, &words);
+    exchange(&mut bridge, lent)?;
+    bench_table_test(&mut bridge, &words)?;
+    bench_report_and_page(&mut bridge)?;
+    for (stacks, least, most) in [("1 to 8 frames", 1, 8), ("64 frames", 64, 64)] {
+        let one = |_| {
+            let frames = dice.from_to(least, most);
+            full::event(&mut dice, frames)
+        };
+        let events: Vec<OwnEvent> = (0..asked.events).map(one).collect();
+        bench_judge(&mut bridge, &words, &events, stacks)?;
+    }
+    Ok(())
+}
+
+fn say_how(bridge: &Bridge) {
     let proved = match bridge.emulated {
         true => "UNDER AN EMULATOR: its figures say nothing about speed",
         false => "natively",
@@ -80,86 +103,68 @@ fn bench(asked: &Asked) -> Result<(), String> {
     println!("the plain program runs {plain}");
     println!("the proved program runs {proved}");
     println!("nanoseconds for one call, the middle of {RUNS} runs");
+}
 
-    let mut dice = Dice::new(asked.seed);
-    let words = encode(&full::policy(&mut dice)).ok_or("no table")?;
-    let policy = decode(&words).ok_or("no policy")?;
-    let mut lent = Requests::default();
-    lent.lend(0, &words);
-    exchange(&mut bridge, lent)?;
-
-    let name = "the table test";
-    let tests = vec![Call::new(Function::WellFormed, &[0], &[]); 200];
-    let plain = timed(tests.len(), || {
-        tests
-            .iter()
-            .map(|_| u64::from(second::well_formed(black_box(&words))))
-            .sum()
-    });
-    let proved = proved_timed(&mut bridge, Function::WellFormed, &tests)?;
-    row(name, &plain, &proved, bridge.emulated)?;
-
-    report_and_page(&mut bridge)?;
-
-    for (stacks, least, most) in [("1 to 8 frames", 1, 8), ("64 frames", 64, 64)] {
-        let one = |_| {
-            let frames = dice.from_to(least, most);
-            full::event(&mut dice, frames)
-        };
-        let events: Vec<OwnEvent> = (0..asked.events).map(one).collect();
-        exchange(&mut bridge, lend(&events))?;
-        let sum = |events: &[OwnEvent], judge: &dyn Fn(&OwnEvent) -> Verdict| -> u64 {
-            let one = |event| u64::from(judge(black_box(event)).packed());
-            events.iter().map(one).sum()
-        };
-
-        let name = format!("{stacks}, no table test");
-        let plain = timed(events.len(), || {
-            sum(&events, &|e| {
-                judge_policy(&policy, e.operation, e.target, &e.lent())
-            })
-        });
-        let proved = proved_judge(&mut bridge, Function::JudgeKnown, &events)?;
-        row(&name, &plain, &proved, bridge.emulated)?;
-
-        let name = format!("{stacks}, table test each");
-        let events = &events[..events.len().div_ceil(TESTED_SHARE)];
-        let plain = timed(events.len(), || {
-            sum(events, &|e| {
-                second::judge(&words, e.operation, e.target, &e.lent())
-            })
-        });
-        let proved = proved_judge(&mut bridge, Function::Judge, events)?;
-        row(&name, &plain, &proved, bridge.emulated)?;
-    }
-    Ok(())
+fn bench_table_test(bridge: &mut Bridge, words: &[u16]) -> Result<(), String> {
+    let tests = vec![Call::new(Function::WellFormed, &[TABLE], &[]); 200];
+    let one = || u64::from(second::well_formed(black_box(words)));
+    let plain = timed(tests.len(), || tests.iter().map(|_| one()).sum());
+    let proved = proved_timed(bridge, Function::WellFormed, &tests)?;
+    row("the table test", &plain, &proved, bridge.emulated)
 }
 
 /// The overlap report of a table without a clash, and the page of a long text.
-fn report_and_page(bridge: &mut Bridge) -> Result<(), String> {
+fn bench_report_and_page(bridge: &mut Bridge) -> Result<(), String> {
     let words = encode(&full::clear_policy()).ok_or("no table")?;
     let text = full::long_page();
     let mut lent = Requests::default();
     lent.lend(1, &words);
-    lent.lend(2, &[0u16; 32]);
+    lent.lend(2, &[0u16; WITNESS_WORDS]);
     lent.lend(3, &text);
     exchange(bridge, lent)?;
 
     let reports = vec![Call::new(Function::Overlap, &[1, 2], &[]); 2];
+    let one = || second::overlap(black_box(&words), &mut [0; WITNESS_WORDS]);
     let plain = timed(reports.len(), || {
-        let one = |_| second::overlap(black_box(&words), &mut [0; 32]).packed();
-        reports.iter().map(one).sum()
+        reports.iter().map(|_| one().answer().packed()).sum()
     });
     let proved = proved_timed(bridge, Function::Overlap, &reports)?;
     row("the report, no clash", &plain, &proved, bridge.emulated)?;
 
     let pages = vec![Call::new(Function::Page, &[3], &[]); 50];
-    let plain = timed(pages.len(), || {
-        let one = |_| Refusal::packed(second::first_fault(black_box(&text)));
-        pages.iter().map(one).sum()
-    });
+    let one = || Refusal::answer(second::first_fault(black_box(&text)));
+    let plain = timed(pages.len(), || pages.iter().map(|_| one().packed()).sum());
     let proved = proved_timed(bridge, Function::Page, &pages)?;
     row("a page of 65,536 bytes", &plain, &proved, bridge.emulated)
+}
+
+/// These events, and a share of them with a test of the table at each.
+fn bench_judge(
+    bridge: &mut Bridge,
+    words: &[u16],
+    events: &[OwnEvent],
+    stacks: &str,
+) -> Result<(), String> {
+    let policy = decode(words).ok_or("no policy")?;
+    exchange(bridge, lend(events))?;
+    let known = |e: &OwnEvent| judge_policy(&policy, e.operation, e.target, &e.lent());
+    let plain = timed(events.len(), || sum(events, known));
+    let proved = proved_judge(bridge, Function::JudgeKnown, events)?;
+    let name = format!("{stacks}, no table test");
+    row(&name, &plain, &proved, bridge.emulated)?;
+
+    let events = &events[..events.len().div_ceil(TESTED_SHARE)];
+    let tested = |e: &OwnEvent| second::judge(words, e.operation, e.target, &e.lent());
+    let plain = timed(events.len(), || sum(events, tested));
+    let proved = proved_judge(bridge, Function::Judge, events)?;
+    let name = format!("{stacks}, table test each");
+    row(&name, &plain, &proved, bridge.emulated)
+}
+
+/// The sum of all answers.
+fn sum(events: &[OwnEvent], judge: impl Fn(&OwnEvent) -> Verdict) -> u64 {
+    let one = |event| judge(black_box(event)).answer().packed();
+    events.iter().map(one).sum()
 }
 
 /// Nanoseconds for one call, and the sum of all answers.
@@ -202,8 +207,8 @@ fn proved_timed(
     let mut replies = Replies::new(&replies);
     let (mut times, mut sum) = (Vec::new(), 0);
     for _ in 0..RUNS {
-        times.push(replies.answer()?);
-        sum = replies.answer()?;
+        times.push(replies.number()?);
+        sum = replies.number()?;
     }
     Ok(Some(middle(times, calls.len(), sum)))
 }
@@ -230,7 +235,7 @@ fn proved_judge(
 ) -> Result<Option<Figure>, String> {
     let call = |(place, event)| {
         let [stack, allocation] = slots(place);
-        judge::call(function, event, [0, stack, allocation])
+        judge::call(function, event, [TABLE, stack, allocation])
     };
     let calls: Vec<Call> = events.iter().enumerate().map(call).collect();
     proved_timed(bridge, function, &calls)

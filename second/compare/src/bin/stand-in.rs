@@ -4,10 +4,14 @@
 #![forbid(unsafe_code)]
 
 use compare::lent::Lent;
-use compare::wire::{Call, Function, CALL, LEND, SHOW, WHAT_IS_HERE};
-use second::{first_fault, well_formed, Event, Refusal};
+use compare::wire::{Call, Function, CALL, LEND, SHOW, TIME, WHAT_IS_HERE};
+use second::policy::ELEMENTS;
+use second::refusal::EMPTY;
+use second::table::{ENTRIES_AT, ENTRY_WORDS, PATTERN_AT, UNUSED_AT};
+use second::{first_fault, well_formed, Event, Overlap, Refusal, Verdict, TABLE_WORDS};
 use std::collections::BTreeMap;
 use std::io::{self, Read, Write};
+use std::time::Instant;
 
 /// What is lent, as bytes between canaries.
 type Slots = BTreeMap<u32, Vec<u8>>;
@@ -43,13 +47,17 @@ fn served(fault: &str, slots: &mut Slots, round: &[u8]) -> Vec<u8> {
             }
             SHOW => put(&mut replies, &slots[&number(&mut left)]),
             CALL => {
-                let call = Call {
-                    function: number(&mut left),
-                    slots: [(); 3].map(|()| number(&mut left)),
-                    numbers: [(); 6].map(|()| number(&mut left)),
-                };
-                let answer = answer(fault, slots, &call);
+                let answer = answer(fault, slots, &call(&mut left));
                 replies.extend_from_slice(&answer.to_le_bytes());
+            }
+            TIME => {
+                let (times, count) = (number(&mut left), number(&mut left));
+                let calls: Vec<Call> = (0..count).map(|_| call(&mut left)).collect();
+                let start = Instant::now();
+                let once = |_| calls.iter().map(|call| answer(fault, slots, call)).sum();
+                let sum: u64 = (0..times).map::<u64, _>(once).sum();
+                replies.extend_from_slice(&(start.elapsed().as_nanos() as u64).to_le_bytes());
+                replies.extend_from_slice(&sum.to_le_bytes());
             }
             other => panic!("no request {other} here"),
         }
@@ -61,6 +69,14 @@ fn number(left: &mut &[u8]) -> u32 {
     let (number, rest) = left.split_at(4);
     *left = rest;
     u32::from_le_bytes([number[0], number[1], number[2], number[3]])
+}
+
+fn call(left: &mut &[u8]) -> Call {
+    Call {
+        function: number(left),
+        slots: [(); 3].map(|()| number(left)),
+        numbers: [(); 6].map(|()| number(left)),
+    }
 }
 
 fn put(replies: &mut Vec<u8>, bytes: &[u8]) {
@@ -86,7 +102,7 @@ fn answer(fault: &str, slots: &mut Slots, call: &Call) -> u64 {
     };
     match Function::ALL[call.function as usize] {
         Function::WellFormed => is_well_formed(fault, words(0).get()).into(),
-        Function::Judge => judged(fault, call, &words(0), &words(1), &words(2)).into(),
+        Function::Judge => judged(fault, call, &words(0), &words(1), &words(2)),
         Function::JudgeKnown => {
             let answer = judged(fault, call, &words(0), &words(1), &words(2));
             let mut table = words(0);
@@ -96,7 +112,7 @@ fn answer(fault: &str, slots: &mut Slots, call: &Call) -> u64 {
                 _ => {}
             }
             slots.insert(call.slots[0], table.bytes());
-            answer.into()
+            answer
         }
         Function::Overlap => {
             let (table, mut witness) = (words(0), words(1));
@@ -120,8 +136,8 @@ fn is_well_formed(fault: &str, table: &[u16]) -> bool {
         "every table is well formed" => true,
         "words after the descriptors are not looked at" => {
             let mut table = table.to_vec();
-            let end = table.len().min(16_384);
-            table[15_904.min(end)..end].fill(0);
+            let end = table.len().min(TABLE_WORDS);
+            table[UNUSED_AT.min(end)..end].fill(0);
             well_formed(&table)
         }
         _ => well_formed(table),
@@ -134,7 +150,7 @@ fn judged(
     table: &Lent<u16>,
     stack: &Lent<u16>,
     allocation: &Lent<u16>,
-) -> u32 {
+) -> u64 {
     let [operation, target, uid, gid, allocation_uid, allocation_gid] = call.numbers;
     let event = Event {
         stack: stack.get(),
@@ -147,9 +163,13 @@ fn judged(
             _ => allocation_gid,
         },
     };
+    let verdict = match fault {
+        "all is inside one domain" => Verdict::Inside,
+        _ => second::judge(table.get(), operation as u16, target as u16, &event),
+    };
     match fault {
-        "all is inside one domain" => 0,
-        _ => second::judge(table.get(), operation as u16, target as u16, &event).packed(),
+        "a verdict is no answer" => 0,
+        _ => verdict.answer().packed(),
     }
 }
 
@@ -158,35 +178,44 @@ fn reported(fault: &str, table: &[u16], witness: &mut [u16]) -> u64 {
         if let Some(words) = witness.get_mut(..32) {
             words.fill(0);
         }
-        return 0;
+        return Overlap::Clear.answer().packed();
     }
-    let answer = second::overlap(table, witness).packed();
-    let length = answer >> 32 & 0xFF;
-    // A pattern of `all` alone.
-    let is_all = |entry: u64| {
-        let block = &table[2_080 + 44 * entry as usize..][..20];
-        block[4..20].iter().all(|&word| word == 0)
-    };
-    match fault {
-        "word 32 is changed" if witness.len() > 32 => witness[32] = 0,
-        "a witness is unreal" if length > 0 => witness[0] ^= 1,
-        "a witness is longer"
-            if length == 1 && is_all(answer >> 16 & 0xFF) && is_all(answer >> 24 & 0xFF) =>
-        {
+    let mut report = second::overlap(table, witness);
+    match (fault, &mut report) {
+        ("word 32 is changed", _) if witness.len() > 32 => witness[32] = 0,
+        ("a witness is unreal", Overlap::Clash { .. }) => witness[0] ^= 1,
+        (
+            "a witness is longer",
+            Overlap::Clash {
+                lower,
+                higher,
+                length,
+                ..
+            },
+        ) if *length == 1 && is_all(table, *lower) && is_all(table, *higher) => {
             witness[1] = witness[0];
-            return answer + (1 << 32);
+            *length = 2;
         }
         _ => {}
     }
-    answer
+    report.answer().packed()
+}
+
+/// Whether an entry's pattern is of `all` alone.
+fn is_all(table: &[u16], entry: u8) -> bool {
+    let block = &table[ENTRIES_AT + ENTRY_WORDS * usize::from(entry)..][..ENTRY_WORDS];
+    block[PATTERN_AT..][..ELEMENTS]
+        .iter()
+        .all(|&word| word == 0)
 }
 
 fn paged(fault: &str, text: &[u8]) -> u64 {
-    let answer = Refusal::packed(first_fault(text));
-    match (fault, answer & 0xFFFF) {
-        ("every page is fine", _) => 0,
-        ("a line is one too small", 9) => answer - (1 << 32),
-        ("a page ends the bridge", 9) => std::process::exit(7),
-        _ => answer,
+    let mut answer = Refusal::answer(first_fault(text));
+    match (fault, answer.value) {
+        ("every page is fine", _) => answer = Refusal::answer(None),
+        ("a line is one too small", EMPTY) => answer.rest -= 1,
+        ("a page ends the bridge", EMPTY) => std::process::exit(7),
+        _ => {}
     }
+    answer.packed()
 }

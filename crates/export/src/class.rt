@@ -1,0 +1,17 @@
+// The classes of the answers (crates/paper/specs/Answers.antt). No answer has class 0.
+pub const REFUSED: u16 = 1;
+
+// Of a verdict.
+pub const VIOLATION: u16 = 2;
+
+pub const INSIDE: u16 = 3;
+
+pub const GRANTED: u16 = 4;
+
+// Of a report.
+pub const CLASH: u16 = 2;
+
+pub const CLEAR: u16 = 3;
+
+// Of a reading.
+pub const ACCEPTED: u16 = 2;

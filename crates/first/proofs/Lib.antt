@@ -1,4 +1,0 @@
-pub mod Steps
-pub mod Theorems
-pub mod Order
-pub mod Right

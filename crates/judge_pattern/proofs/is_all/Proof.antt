@@ -1,0 +1,53 @@
+-- The elements from place i on decide what all do.
+use borrow.Author.Needs.{needs}
+use Prim.Native.Nat.{_-_, _≤_}
+use mathlib.Core.Path.{_≡_}
+use lib.ListN.{length}
+use Rattle.judge_pattern.proofs.Laws.{allFrom, all-so-far, not-all, all-to-end}
+use Rattle.judge_pattern.proofs.is_all.Statement.{statement}
+use Rattle.judge_pattern.proofs.is_all.Tie as tie
+
+abbrev Inv-loop : tie.InvT-loop
+Inv-loop pattern i₀ i = (i ≤ length pattern) × (allFrom pattern 0 ≡ allFrom pattern i)
+
+abbrev μ-loop : tie.MeasureT-loop
+μ-loop pattern i₀ i = length pattern - i
+
+loop-holds : tie.Need-loop-holds Inv-loop μ-loop
+loop-holds c = search needs
+
+mul-if1 : tie.Need-mul-if1 Inv-loop μ-loop
+mul-if1 c = search needs
+
+shared-slice-read-if1 : tie.Need-shared-slice-read-if1 Inv-loop μ-loop
+shared-slice-read-if1 c = search needs
+
+returns : tie.Need-returns Inv-loop μ-loop
+returns c = search (needs, not-all)
+
+add-i : tie.Need-add-i Inv-loop μ-loop
+add-i c = search needs
+
+loop-less : tie.Need-loop-less Inv-loop μ-loop
+loop-less c = search needs
+
+loop-again : tie.Need-loop-again Inv-loop μ-loop
+loop-again c = search (needs, all-so-far)
+
+returns-2 : tie.Need-returns-2 Inv-loop μ-loop
+returns-2 c = search (needs, all-to-end)
+
+pub is-all-spec : {M : Type 1} → statement M
+is-all-spec =
+    tie.close
+    (tie.spec
+    Inv-loop
+    μ-loop
+    loop-holds
+    mul-if1
+    shared-slice-read-if1
+    returns
+    add-i
+    loop-less
+    loop-again
+    returns-2)

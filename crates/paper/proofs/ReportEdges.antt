@@ -1,0 +1,123 @@
+-- The overlap report's refusals, and what it may and may not say of small policies (document 01, "Overlap report").
+use Prim.Native.Nat.{ℕ, _<_}
+use mathlib.Core.Path.{_≡_, refl}
+use mathlib.Core.Bool.{true, false, false≢true}
+use mathlib.Core.Logic.{inr, ⊎-elim}
+use mathlib.Core.List.{List, [], _∷_, _++_, map}
+use native.Mathlib.Omega.{arith}
+use lib.Dec.{ltb}
+use lib.ListN.{length, take, replicate}
+use Rattle.paper.specs.declared.Report.the-variants.{Clear, Clash, Unreported}
+use Rattle.paper.specs.Scalars.{Sort, anyone, variable, root, user}
+use Rattle.paper.specs.Policy.{all, every, Entry, Policy}
+use Rattle.paper.specs.Table.{wellFormed}
+use Rattle.paper.specs.Overlap.{PairBefore, Says, witnessUid, witnessLeft}
+use Rattle.paper.specs.Promises.{reportRefusal}
+use Rattle.paper.proofs.Computing.{computing}
+use Rattle.paper.proofs.WorkedPolicy.{context}
+
+-- ---- "the report's [order is] 20, 40"; 40: "witness room under 32 words"
+
+ill-formed-first : map (reportRefusal []) ([] ∷ replicate 32 0 ∷ []) ≡ 20 ∷ 20 ∷ []
+unfolding computing
+ill-formed-first = refl
+
+short-witness : (table witness : List ℕ) → wellFormed table ≡ true → ltb (length witness) 32 ≡ true → reportRefusal table witness ≡ 40
+unfolding reportRefusal
+short-witness table witness w h = rw (w, h)
+
+enough-witness : (table witness : List ℕ) → wellFormed table ≡ true → ltb (length witness) 32 ≡ false → reportRefusal table witness ≡ 0
+unfolding reportRefusal
+enough-witness table witness w h = rw (w, h)
+
+-- ---- the witness, and the uid
+
+-- "the witness holds the stack from its base, then zeros to word 32. Words past 32 never change."
+witnesses :
+    map (λ (stack : List ℕ). witnessLeft stack (replicate 32 7 ++ (8 ∷ 9 ∷ []))) ([] ∷ (3 ∷ 1 ∷ []) ∷ replicate 32 5 ∷ [])
+    ≡ (replicate 32 0 ++ (8 ∷ 9 ∷ [])) ∷ ((3 ∷ 1 ∷ replicate 30 0) ++ (8 ∷ 9 ∷ [])) ∷ (replicate 32 5 ++ (8 ∷ 9 ∷ [])) ∷ []
+unfolding computing
+witnesses = refl
+
+abbrev entry : Sort → Entry
+entry uid = record { context = context (all ∷ []) uid anyone; subject = 0; calls = every; returns = every; reads = []; writes = [] }
+
+-- "uid (1 if either entry says `user`, else 0)"
+witness-uids :
+    map (λ (s : Sort). witnessUid (entry s) (entry anyone)) (anyone ∷ variable ∷ root ∷ user ∷ [])
+    ++ map (λ (s : Sort). witnessUid (entry s) (entry user)) (anyone ∷ variable ∷ root ∷ user ∷ [])
+    ≡ (0 ∷ 0 ∷ 0 ∷ 1 ∷ []) ++ (1 ∷ 1 ∷ 1 ∷ 1 ∷ [])
+unfolding computing
+witness-uids = refl
+
+-- ---- what it says: function 0 of subject domain 0, and entries for it
+
+abbrev policy : List Entry → Policy
+policy entries = record { objectDomains = 0; subjectDomains = 1; objects = []; functions = 0 ∷ []; entries = entries }
+
+-- two that both match at 0, one of which says `user`
+abbrev two : Policy
+two = policy (entry anyone ∷ entry user ∷ [])
+
+-- no pair stands before 0 and 1
+none-before : (i j : ℕ) → i < j → PairBefore i j 0 1 → ⊥
+none-before i j below before = ⊎-elim (λ h. omega arith) (λ h. omega arith) before
+
+module _ (old new : List ℕ) where
+  one-entry-clear : Says (policy (entry user ∷ [])) old (witnessLeft [] old) Clear
+  unfolding computing
+  one-entry-clear = (refl, λ i j below listed m both. omega arith)
+
+  two-clash : Says two old (witnessLeft (0 ∷ []) old) (Clash 0 1 1 1 0)
+  unfolding computing
+  two-clash =
+      record {
+        ordered = omega arith;
+        listed = omega arith;
+        first = λ i j below listed before m both. none-before i j below before;
+        both = record { one = refl; other = refl };
+        short = omega arith;
+        left = refl;
+        uidIs = refl;
+        gidIs = refl;
+      }
+
+  -- "clear" is not said of them, nor is a refusal of a table that is none
+  two-not-clear : Says two old new Clear → ⊥
+  unfolding computing
+  two-not-clear said = said .1 0 1 (omega arith) (omega arith) (record { stack = 0 ∷ []; uid = 1; gid = 0 }) (record { one = refl; other = refl })
+
+  not-refused : (number : ℕ) → Says two old new (Unreported number) → ⊥
+  not-refused number said = said
+
+  -- another uid or gid, another order, a pair that is not there
+  not-another-uid : (depth gid : ℕ) → Says two old new (Clash 0 1 depth 0 gid) → ⊥
+  unfolding computing
+  not-another-uid depth gid said = omega (arith, said .uidIs)
+
+  not-another-gid : (depth uid : ℕ) → Says two old new (Clash 0 1 depth uid 1) → ⊥
+  not-another-gid depth uid said = omega (arith, said .gidIs)
+
+  not-the-other-order : (depth uid gid : ℕ) → Says two old new (Clash 1 0 depth uid gid) → ⊥
+  not-the-other-order depth uid gid said = omega (arith, said .ordered)
+
+  not-past-the-last : (depth uid gid : ℕ) → Says two old new (Clash 1 2 depth uid gid) → ⊥
+  not-past-the-last depth uid gid said = omega (arith, said .listed)
+
+  -- not a stack over 32, nor one at which they do not match
+  not-over-32 : (uid gid : ℕ) → Says two old new (Clash 0 1 33 uid gid) → ⊥
+  not-over-32 uid gid said = omega (arith, said .short)
+
+  not-without-a-stack : Says two old new (Clash 0 1 0 1 0) → ⊥
+  unfolding computing
+  not-without-a-stack said = false≢true (said .both .one)
+
+  -- "lower entry least, then higher least": of three that all match, not the first and the third
+  not-a-later-pair : (depth uid gid : ℕ) → Says (policy (entry anyone ∷ entry user ∷ entry variable ∷ [])) old new (Clash 0 2 depth uid gid) → ⊥
+  unfolding computing
+  not-a-later-pair depth uid gid said =
+      said .first 0 1 (omega arith) (omega arith) (inr (refl, omega arith)) (record { stack = 0 ∷ []; uid = 1; gid = 0 }) (record { one = refl; other = refl })
+
+  -- words past 32 as they were
+  what-a-clash-leaves : (p : Policy) (lower higher depth uid gid : ℕ) → Says p old new (Clash lower higher depth uid gid) → new ≡ witnessLeft (take depth new) old
+  what-a-clash-leaves p lower higher depth uid gid said = said .left

@@ -1,0 +1,23 @@
+// The numbers that come back, by what they say (document 01, "Numbers that come back").
+pub const TEXT_TOO_LONG: u16 = 2;
+
+pub const BAD_BYTE: u16 = 3;
+
+pub const LAYOUT: u16 = 4;
+
+pub const SCALAR: u16 = 5;
+
+pub const EMPTY_FIELD: u16 = 9;
+
+pub const TABLE_ILL_FORMED: u16 = 20;
+
+pub const STACK: u16 = 21;
+
+pub const ALLOCATION_STACK: u16 = 22;
+
+pub const OPERATION: u16 = 23;
+
+pub const WITNESS_TOO_SHORT: u16 = 40;
+
+// The line of a refusal that has none.
+pub const NO_LINE: u32 = 0;

@@ -1,0 +1,58 @@
+-- The loop: what is left of the two stretches is the same exactly when they are.
+use Rattle.paper.specs.Common.{same}
+use mathlib.Core.Path.{_≡_}
+use lib.ListN.{length, drop}
+use Prim.Native.Nat.{_≤_, _-_}
+use Rattle.laws.proofs.Tests.{same-lengths, same-differs, same-again, same-ends}
+use borrow.Author.Needs.{needs}
+use Rattle.text_bytes.proofs.same.Statement.{statement}
+use Rattle.text_bytes.proofs.same.Tie as tie
+
+abbrev Inv-loop : tie.InvT-loop
+Inv-loop x y i₀ i = (i ≤ length x) × (same (drop i x) (drop i y) ≡ same x y)
+
+abbrev μ-loop : tie.MeasureT-loop
+μ-loop x y i₀ i = length x - i
+
+returns : tie.Need-returns Inv-loop μ-loop
+returns c = search (needs, same-lengths)
+
+loop-holds : tie.Need-loop-holds Inv-loop μ-loop
+loop-holds c = search needs
+
+shared-slice-read-if2 : tie.Need-shared-slice-read-if2 Inv-loop μ-loop
+shared-slice-read-if2 c = search needs
+
+shared-slice-read-if2-2 : tie.Need-shared-slice-read-if2-2 Inv-loop μ-loop
+shared-slice-read-if2-2 c = search needs
+
+returns-2 : tie.Need-returns-2 Inv-loop μ-loop
+returns-2 c = search (needs, same-differs)
+
+add-i : tie.Need-add-i Inv-loop μ-loop
+add-i c = search needs
+
+loop-less : tie.Need-loop-less Inv-loop μ-loop
+loop-less c = search needs
+
+loop-again : tie.Need-loop-again Inv-loop μ-loop
+loop-again c = search (needs, same-again)
+
+returns-3 : tie.Need-returns-3 Inv-loop μ-loop
+returns-3 c = search (needs, same-ends)
+
+pub same-spec : {M : Type 1} → statement M
+same-spec =
+    tie.close
+    (tie.spec
+    Inv-loop
+    μ-loop
+    returns
+    loop-holds
+    shared-slice-read-if2
+    shared-slice-read-if2-2
+    returns-2
+    add-i
+    loop-less
+    loop-again
+    returns-3)

@@ -1,0 +1,127 @@
+// Stretches of bytes: equal ones, the way to a byte, and the classes of bytes that scalars are made of.
+pub mod byte;
+
+ghost use mathlib.Core.Path.{_≡_};
+ghost use Prim.Native.Nat.{_+_};
+ghost use lib.ListN.{drop};
+ghost use Rattle.paper.specs.Common.{within, allOf, same, isFrontOf};
+ghost use Rattle.paper.specs.Scalars.{isLetter, isDigit, nameByte, identifierByte, identifierFirst};
+ghost use Rattle.laws.specs.Pieces.{before};
+ghost use Rattle.text_bytes.specs.Classes.{isOf};
+
+// The classes of bytes that a stretch can be asked to keep to.
+pub enum Class {
+    NameByte,
+    IdentifierByte,
+    Digit,
+}
+
+pub fn same(x: &[u8], y: &[u8]) -> bool
+    ensures { λ r. ⌜ r ≡ same (now (x .entry)) (now (y .entry)) ⌝ }
+{
+    if x.len() != y.len() {
+        return false;
+    }
+    let mut i: usize = 0;
+    while i < x.len() {
+        if x[i] != y[i] {
+            return false;
+        }
+        i += 1;
+    }
+    true
+}
+
+// The stretch begins with the key.
+pub fn is_front_of(key: &[u8], s: &[u8]) -> bool
+    ensures { λ r. ⌜ r ≡ isFrontOf (now (key .entry)) (now (s .entry)) ⌝ }
+{
+    let mut i: usize = 0;
+    while i < key.len() {
+        if s.len() <= i {
+            return false;
+        }
+        if key[i] != s[i] {
+            return false;
+        }
+        i += 1;
+    }
+    true
+}
+
+// The place of the first c from `at` on, or the end.
+pub fn find(s: &[u8], at: usize, c: u8) -> usize
+    ensures { λ r. ⌜ r ≡ at + before c (drop at (now (s .entry))) ⌝ }
+{
+    let mut i = at;
+    while i < s.len() {
+        if s[i] == c {
+            return i;
+        }
+        i += 1;
+    }
+    i
+}
+
+pub fn within(low: u8, high: u8, b: u8) -> bool
+    ensures { λ r. ⌜ r ≡ within low high b ⌝ }
+{
+    (low <= b) & (b <= high)
+}
+
+fn is_letter(b: u8) -> bool
+    ensures { λ r. ⌜ r ≡ isLetter b ⌝ }
+{
+    within(b'A', b'Z', b) | within(b'a', b'z', b)
+}
+
+fn is_digit(b: u8) -> bool
+    ensures { λ r. ⌜ r ≡ isDigit b ⌝ }
+{
+    within(b'0', b'9', b)
+}
+
+fn name_byte(b: u8) -> bool
+    ensures { λ r. ⌜ r ≡ nameByte b ⌝ }
+{
+    is_letter(b) | is_digit(b) | (b == b'_') | (b == b'.')
+}
+
+// The test of a byte of an identifier, which stands here and nowhere else.
+fn identifier_byte(b: u8) -> bool
+    ensures { λ r. ⌜ r ≡ identifierByte b ⌝ }
+{
+    let list_mark = (b == b',') | (b == b'[') | (b == b']') | (b == b'{') | (b == b'}');
+    let other_mark = (b == b'#') | (b == b'"') | (b == b'\'') | (b == b':');
+    within(0x21, 0x7E, b) & !(list_mark | other_mark)
+}
+
+pub fn identifier_first(b: u8) -> bool
+    ensures { λ r. ⌜ r ≡ identifierFirst b ⌝ }
+{
+    is_letter(b) | is_digit(b) | (b == b'/') | (b == b'.') | (b == b'_')
+}
+
+fn is_of(class: Class, b: u8) -> bool
+    ensures { λ r. ⌜ r ≡ isOf class b ⌝ }
+{
+    match class {
+        Class::NameByte => name_byte(b),
+        Class::IdentifierByte => identifier_byte(b),
+        Class::Digit => is_digit(b),
+    }
+}
+
+// Every byte is of the class.
+pub fn all_of(class: Class, s: &[u8]) -> bool
+    ensures { λ r. ⌜ r ≡ allOf (isOf class) (now (s .entry)) ⌝ }
+{
+    let mut i: usize = 0;
+    while i < s.len() {
+        if !is_of(class, s[i]) {
+            return false;
+        }
+        i += 1;
+    }
+    true
+}

@@ -1,0 +1,38 @@
+-- Column against column, and then dash against dash.
+use Rattle.text_keys.proofs.Looks.{alongside-away, alongside-dashed, alongside-plain}
+use borrow.Author.Needs.{needs}
+use Rattle.text_keys.proofs.alongside.Statement.{statement}
+use Rattle.text_keys.proofs.alongside.Tie as tie
+
+column-requires : tie.Need-column-requires
+column-requires c κs = search needs
+
+column-requires-2 : tie.Need-column-requires-2
+column-requires-2 c κs = search needs
+
+returns : tie.Need-returns
+returns c = search (needs, alongside-away)
+
+dashed-requires : tie.Need-dashed-requires
+dashed-requires c κs = search needs
+
+dashed-requires-2 : tie.Need-dashed-requires-2
+dashed-requires-2 c κs = search needs
+
+returns-2 : tie.Need-returns-2
+returns-2 c = search (needs, alongside-dashed)
+
+returns-3 : tie.Need-returns-3
+returns-3 c = search (needs, alongside-plain)
+
+pub alongside-spec : {M : Type 1} → statement M
+alongside-spec =
+    tie.close
+    (tie.spec
+    column-requires
+    column-requires-2
+    returns
+    dashed-requires
+    dashed-requires-2
+    returns-2
+    returns-3)

@@ -1,0 +1,20 @@
+-- The end that was found splits off a line, ended or not.
+use Rattle.text_lines.proofs.Laws.{splits-ended, splits-open}
+use borrow.Author.Needs.{needs}
+use Rattle.text_lines.proofs.line_at.Statement.{statement}
+use Rattle.text_lines.proofs.line_at.Tie as tie
+
+find-requires : tie.Need-find-requires
+find-requires c κs = search needs
+
+add-t6 : tie.Need-add-t6
+add-t6 c = search needs
+
+returns : tie.Need-returns
+returns c = search (needs, splits-ended)
+
+returns-2 : tie.Need-returns-2
+returns-2 c = search (needs, splits-open)
+
+pub line-at-spec : {M : Type 1} → statement M
+line-at-spec = tie.close (tie.spec find-requires add-t6 returns returns-2)

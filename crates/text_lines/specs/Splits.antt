@@ -1,0 +1,17 @@
+-- What it is to split off one line: whoever reads lines stands on this and on nothing else.
+use mathlib.Core.Path.{_≡_}
+use mathlib.Core.List.{List, _∷_}
+use Prim.Native.Nat.{ℕ, _-_, _<_, _≤_}
+use lib.ListN.{length, take, drop}
+use Rattle.paper.specs.Text.{linesFrom}
+use Rattle.text_lines.specs.declared.LineAt.{LineAt}
+
+-- the lines from `at` on are the line from `at` to its end, and the lines from the next on
+pub record Splits (t : List ℕ) (at : ℕ) (l : LineAt) : Type 0 where
+  pub splits :
+      linesFrom at (drop at t)
+      ≡ record { start = at; text = take (l .end - at) (drop at t); ended = l .ended } ∷ linesFrom (l .next) (drop (l .next) t)
+  pub after : at ≤ l .end
+  pub inside : l .end ≤ length t
+  pub further : at < l .next
+  pub stays : l .next ≤ length t

@@ -1,0 +1,113 @@
+// Lines: where one ends and the next begins, its column, whether it is skipped; and the line of the first bad byte.
+// How a line ends is known here and nowhere else.
+use text_bytes::byte;
+ghost use mathlib.Core.Path.{_≡_};
+ghost use mathlib.Core.Bool.{cond, not};
+ghost use Prim.Native.Nat.{_+_, _^_, _<_, _≤_};
+ghost use lib.Dec.{eqb};
+ghost use lib.ListN.{length};
+ghost use Rattle.paper.specs.Common.{allOf};
+ghost use Rattle.paper.specs.Text.{lineFeed, mayStand, badByteLine, column, skipped};
+ghost use Rattle.text_lines.specs.Splits.{Splits};
+
+// A line that begins at some place of a text: its bytes end at `end`, the next line begins at `next`.
+pub struct LineAt {
+    pub end: usize,
+    pub next: usize,
+    pub ended: bool,
+}
+
+pub fn line_at(text: &[u8], at: usize) -> LineAt
+    requires { ⌜ at < length (now text) ⌝ }
+    ensures { λ r. ⌜ Splits (now (text .entry)) at r ⌝ }
+{
+    let end = text_bytes::find(text, at, byte::LINE_FEED);
+    if end < text.len() {
+        return LineAt {
+            end,
+            next: end + 1,
+            ended: true,
+        };
+    }
+    LineAt {
+        end,
+        next: text.len(),
+        ended: false,
+    }
+}
+
+pub fn column(l: &[u8]) -> usize
+    ensures { λ r. ⌜ (r ≡ column (now (l .entry))) × (r ≤ length (now (l .entry))) ⌝ }
+{
+    let mut i: usize = 0;
+    while i < l.len() {
+        if l[i] != byte::SPACE {
+            return i;
+        }
+        i += 1;
+    }
+    i
+}
+
+pub fn skipped(l: &[u8]) -> bool
+    ensures { λ r. ⌜ r ≡ skipped (now (l .entry)) ⌝ }
+{
+    let k = column(l);
+    if l.len() <= k {
+        return true;
+    }
+    l[k] == byte::HASH
+}
+
+fn may_stand(b: u8) -> bool
+    ensures { λ r. ⌜ r ≡ mayStand b ⌝ }
+{
+    (b == byte::LINE_FEED) | text_bytes::within(b' ', b'~', b)
+}
+
+// Some byte may not stand. The loop has no exit, so that it takes many bytes at a time.
+fn has_bad_byte(text: &[u8]) -> bool
+    ensures { λ r. ⌜ r ≡ not (allOf mayStand (now (text .entry))) ⌝ }
+{
+    let mut right = true;
+    let mut i: usize = 0;
+    while i < text.len() {
+        right = right & may_stand(text[i]);
+        i += 1;
+    }
+    !right
+}
+
+// The line behind a byte.
+fn line_behind(b: u8, line: usize) -> usize
+    requires { ⌜ line < 2 ^ 63 ⌝ }
+    ensures { λ r. ⌜ (r ≡ cond (eqb b lineFeed) (line + 1) line) × (r ≤ line + 1) ⌝ }
+{
+    if b == byte::LINE_FEED {
+        return line + 1;
+    }
+    line
+}
+
+// No line: lines are numbered from 1.
+pub const NO_LINE: usize = 0;
+
+// The line of the first byte that may not stand; lines are counted only where there is one.
+pub fn bad_byte_line(text: &[u8]) -> usize
+    ensures { λ r. ⌜ r ≡ badByteLine 1 (now (text .entry)) ⌝ }
+{
+    if !has_bad_byte(text) {
+        return NO_LINE;
+    }
+    let mut line: usize = 1;
+    let mut i: usize = 0;
+    while i < text.len() {
+        let b = text[i];
+        if !may_stand(b) {
+            return line;
+        }
+        line = line_behind(b, line);
+        i += 1;
+    }
+    NO_LINE
+}

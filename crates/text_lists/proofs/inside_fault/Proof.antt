@@ -1,0 +1,25 @@
+-- The definition: the elements are looked at only where the spaces are right.
+use Rattle.laws.proofs.Chains.{chain-found, chain-on}
+use Rattle.text_lists.proofs.Laws.{told-spaced, fault-unless-told}
+use borrow.Author.Needs.{needs}
+use Rattle.text_lists.proofs.inside_fault.Statement.{statement}
+use Rattle.text_lists.proofs.inside_fault.Tie as tie
+
+spaced-requires : tie.Need-spaced-requires
+spaced-requires c κs = search needs
+
+all-are-requires : tie.Need-all-are-requires
+all-are-requires c κs = search (needs, told-spaced)
+
+fault-unless-requires : tie.Need-fault-unless-requires
+fault-unless-requires c κs = search needs
+
+returns : tie.Need-returns
+returns c = search (needs, chain-found, fault-unless-told)
+
+returns-2 : tie.Need-returns-2
+returns-2 c = search (needs, chain-on)
+
+pub inside-fault-spec : {M : Type 1} → statement M
+inside-fault-spec =
+    tie.close (tie.spec spaced-requires all-are-requires fault-unless-requires returns returns-2)

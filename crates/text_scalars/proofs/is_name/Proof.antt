@@ -1,0 +1,14 @@
+-- One expression, which is the definition.
+use Rattle.text_scalars.proofs.Laws.{name-is}
+use borrow.Author.Needs.{needs}
+use Rattle.text_scalars.proofs.is_name.Statement.{statement}
+use Rattle.text_scalars.proofs.is_name.Tie as tie
+
+all-of-requires : tie.Need-all-of-requires
+all-of-requires c κs = search needs
+
+returns : tie.Need-returns
+returns c = search (needs, name-is)
+
+pub is-name-spec : {M : Type 1} → statement M
+is-name-spec = tie.close (tie.spec all-of-requires returns)

@@ -1,0 +1,89 @@
+//! `include/dovetenon.h` and its example say what the plain program says.
+
+use second::judge::FRAMES;
+use second::{refusal, EXAMPLE, TABLE_WORDS, WITNESS_WORDS};
+use second::{Overlap, Refusal, Verdict};
+use std::collections::BTreeMap;
+
+fn file(name: &str) -> String {
+    std::fs::read_to_string(format!("../../{name}")).unwrap()
+}
+
+/// The names of the header and the number of each.
+fn names() -> BTreeMap<String, usize> {
+    let header = file("include/dovetenon.h");
+    let named = header.lines().filter_map(|line| {
+        let line = line.trim().strip_prefix("DOVETENON_")?;
+        let (name, rest) = line.split_once(" = ")?;
+        let digits = rest.split(|c: char| !c.is_ascii_digit()).next()?;
+        Some((name.to_string(), digits.parse().unwrap()))
+    });
+    named.collect()
+}
+
+#[test]
+fn every_name_of_the_header_is_the_plain_number() {
+    let clash = Overlap::Clash {
+        lower: 0,
+        higher: 1,
+        length: 1,
+        uid: 0,
+    };
+    let refusals = [
+        ("TEXT_TOO_LONG", refusal::LONG_TEXT),
+        ("BAD_BYTE", refusal::BYTE),
+        ("LAYOUT", refusal::LAYOUT),
+        ("SCALAR", refusal::SCALAR),
+        ("EMPTY_FIELD", refusal::EMPTY),
+        ("TABLE_ILL_FORMED", refusal::NOT_WELL_FORMED),
+        ("STACK", refusal::STACK),
+        ("ALLOCATION_STACK", refusal::ALLOCATION),
+        ("OPERATION", refusal::OPERATION),
+        ("WITNESS_TOO_SHORT", refusal::SHORT_WITNESS),
+    ];
+    let classes = [
+        ("VERDICT_REFUSED", Verdict::Refused(20).answer()),
+        ("VERDICT_VIOLATION", Verdict::Violation(1).answer()),
+        ("VERDICT_INSIDE", Verdict::Inside.answer()),
+        ("VERDICT_GRANTED", Verdict::Allowed(0).answer()),
+        ("REPORT_REFUSED", Overlap::Refused(20).answer()),
+        ("REPORT_CLASH", clash.answer()),
+        ("REPORT_CLEAR", Overlap::Clear.answer()),
+        ("READING_REFUSED", Refusal::answer(Some(Refusal::of(2)))),
+        ("READING_ACCEPTED", Refusal::answer(None)),
+    ];
+    let others = [
+        ("TABLE_WORDS", TABLE_WORDS),
+        ("FRAMES", FRAMES),
+        ("WITNESS_WORDS", WITNESS_WORDS),
+        ("TEXT_BYTES", 65_536),
+        ("READ", 1),
+        ("WRITE", 2),
+        ("CALL", 3),
+        ("RETURN", 4),
+        ("TOP_UNLISTED", 1),
+        ("TARGET_UNLISTED", 2),
+        ("NO_ENTRY_MATCHES", 3),
+        ("NONE_GRANTS", 4),
+    ];
+    let refusals = refusals.map(|(name, number)| (name, usize::from(number)));
+    let classes = classes.map(|(name, answer)| (name, usize::from(answer.class)));
+    let all = refusals.into_iter().chain(classes).chain(others);
+    let expected = all.map(|(name, number)| (name.to_string(), number));
+    assert_eq!(names(), expected.collect());
+}
+
+#[test]
+fn the_example_in_c_has_the_worked_text() {
+    let quoted = EXAMPLE.lines().map(|line| format!("    \"{line}\\n\""));
+    let quoted: Vec<String> = quoted.collect();
+    assert!(file("include/example.c").contains(&quoted.join("\n")));
+}
+
+#[test]
+fn the_readme_shows_a_part_of_the_example() {
+    let readme = file("README.md");
+    let (_, shown) = readme.split_once("```c\n").unwrap();
+    let (shown, _) = shown.split_once("```").unwrap();
+    assert!(file("include/example.c").contains(shown));
+}
