@@ -35,11 +35,17 @@ enum {
 
 /* The numbers of refusals: class 1 of every answer. */
 enum {
+    DOVETENON_TABLE_TOO_SHORT = 1,    /* table under 16,384 words */
     DOVETENON_TEXT_TOO_LONG = 2,      /* text over 65,536 bytes */
     DOVETENON_BAD_BYTE = 3,           /* byte other than LF and 0x20 to 0x7E */
     DOVETENON_LAYOUT = 4,             /* layout, key, missing key, no LF at the end, empty text */
     DOVETENON_SCALAR = 5,             /* scalar malformed, list elements too */
+    DOVETENON_COUNT = 6,              /* a count over its limit */
+    DOVETENON_TWICE = 7,              /* domain name, identifier of one map, or name in one list twice */
+    DOVETENON_UNKNOWN = 8,            /* domain or function its map lacks */
     DOVETENON_EMPTY_FIELD = 9,        /* empty field with no "none" */
+    DOVETENON_UNBOUND = 10,           /* object context variable not the one bound by its entry's same key */
+    DOVETENON_SAME_PRINCIPAL = 11,    /* two entries with the same principal */
     DOVETENON_TABLE_ILL_FORMED = 20,  /* table not well formed */
     DOVETENON_STACK = 21,             /* stack of 0 or over 64 frames */
     DOVETENON_ALLOCATION_STACK = 22,  /* allocation stack over 64 frames */
@@ -190,13 +196,28 @@ static inline uint32_t dovetenon_report_uid(uint64_t report)
     return (uint32_t)(report >> 56 & 1);
 }
 
-/* ---- The page */
+/* ---- The reader */
+
+/* Reads a policy text into a table.
+
+   Refused with 1, then 2, then 3, then the first line with 4, 9 or 5, in that
+   order on one line, then 6, 7, 8, 10, 11, each over the whole file and with
+   the smallest line at fault.
+
+   On 1 no word of the table changes. On 2 to 11 its first 16,384 words are
+   zero, which no function takes for a table. When accepted, they are the words
+   of the policy, well formed. What they held before makes no difference. Words
+   past 16,384 never change.
+
+   It wants 1 MB of stack. */
+uint64_t dovetenon_read(const uint8_t *text, size_t text_len,
+                        uint16_t *table, size_t table_len);
 
 /* What the reader refuses a text with before it looks at counts and names: 2,
    then 3, then the first line with 4, 9 or 5, in that order on one line. */
 uint64_t dovetenon_page(const uint8_t *text, size_t text_len);
 
-/* The classes of a reading. */
+/* The classes of a reading, whether of the text or of its page alone. */
 enum {
     DOVETENON_READING_REFUSED = 1,  /* the number of the refusal, and its line */
     DOVETENON_READING_ACCEPTED = 2  /* none of these refusals */
@@ -213,7 +234,7 @@ static inline uint16_t dovetenon_reading_number(uint64_t reading)
     return (uint16_t)(reading & 0xFFFF);
 }
 
-/* The line at fault, from 1; 0 for refusal 2, which has none. */
+/* The line at fault, from 1; 0 for refusals 1 and 2, which have none. */
 static inline uint32_t dovetenon_reading_line(uint64_t reading)
 {
     return (uint32_t)(reading >> 32);

@@ -1,6 +1,6 @@
-/* The worked example of README.md, from C: what becomes of seven events under
-   its table, the overlap report of it and of a table with a clash, and the page
-   of its text, whole and without its last byte.
+/* The worked example of README.md, from C: its text read into a table, what
+   becomes of seven events under that table, the overlap report of it and of the
+   table of a longer text, and a text without its last byte.
 
      cc -std=c11 -Iinclude include/example.c target/staticlib/libexport.a */
 #include "dovetenon.h"
@@ -11,23 +11,7 @@
 enum { MAIN, ADD, SUM };
 enum { KWH };
 
-/* Where its parts stand in the table: docs/TABLE.md. */
-enum { FUNCTIONS = 1056, ENTRY = 2080, DESCRIPTOR = 7712 };
-
-static const uint16_t table[DOVETENON_TABLE_WORDS] = {
-    [0] = 0x4454,                 /* the mark */
-    [1] = 1, [2] = 2,             /* object domains: Meter 0; subject domains: Main 0, Bill 1 */
-    [3] = 1, [4] = 3, [5] = 1,    /* objects, functions, entries */
-    [FUNCTIONS + ADD] = 1,        /* add and sum are in Bill */
-    [FUNCTIONS + SUM] = 1,
-    [ENTRY] = 1,                  /* entry 0: a pattern of one element, `all` */
-    [ENTRY + 1] = 1,              /* uid: a variable */
-    [ENTRY + 20] = 1,             /* subject: Bill */
-    [ENTRY + 21] = 1,             /* one read descriptor */
-    [ENTRY + 33 + 1] = 1 << 0,    /* may return to Main */
-    [DESCRIPTOR] = 1,             /* its descriptor: a pattern of one element, `all` */
-    [DESCRIPTOR + 20 + 1] = 1 << 0 /* of Meter */
-};
+static uint16_t table[DOVETENON_TABLE_WORDS];
 
 static const char text[] =
     "object_map:\n"
@@ -48,6 +32,14 @@ static const char text[] =
     "  can_read:\n"
     "  - objects: [Meter]\n"
     "  can_write:\n";
+
+/* An entry that claims moments of the one above. */
+static const char another[] =
+    "- principal:\n"
+    "    subject: Bill\n"
+    "    execution_context:\n"
+    "      call_context: [m.c|main, all]\n"
+    "      uid: user\n";
 
 /* Judges an event at uid 5 whose target, if it is an object, is static. */
 static void judge(const char *event, uint16_t operation, uint16_t target, const uint16_t *stack, size_t frames)
@@ -70,11 +62,11 @@ static void judge(const char *event, uint16_t operation, uint16_t target, const 
     }
 }
 
-/* Tells which entries of a table claim one moment, and which moment. */
-static void report(const uint16_t *words)
+/* Tells which entries of the table claim one moment, and which moment. */
+static void report(void)
 {
     uint16_t witness[DOVETENON_WITNESS_WORDS];
-    uint64_t report = dovetenon_overlap(words, DOVETENON_TABLE_WORDS, witness, DOVETENON_WITNESS_WORDS);
+    uint64_t report = dovetenon_overlap(table, DOVETENON_TABLE_WORDS, witness, DOVETENON_WITNESS_WORDS);
     switch (dovetenon_report_class(report)) {
     case DOVETENON_REPORT_CLEAR:
         printf("clear\n");
@@ -91,14 +83,20 @@ static void report(const uint16_t *words)
     }
 }
 
-/* Tells whether the page of a text is in order. */
-static void read_page(const char *bytes, size_t length)
+/* Tells what came of reading a text, or its page. */
+static void tell(uint64_t reading)
 {
-    uint64_t reading = dovetenon_page((const uint8_t *)bytes, length);
     if (dovetenon_reading_class(reading) == DOVETENON_READING_ACCEPTED)
         printf("accepted\n");
     else
         printf("refused, %d, line %d\n", dovetenon_reading_number(reading), (int)dovetenon_reading_line(reading));
+}
+
+/* Reads a text into the table. A refused one leaves words by which nothing is
+   allowed. */
+static void read_text(const char *bytes, size_t length)
+{
+    tell(dovetenon_read((const uint8_t *)bytes, length, table, DOVETENON_TABLE_WORDS));
 }
 
 int main(void)
@@ -106,6 +104,7 @@ int main(void)
     const uint16_t in_main[] = {MAIN};
     const uint16_t in_add[] = {MAIN, ADD};
     const uint16_t in_unlisted[] = {MAIN, 9};
+    read_text(text, sizeof text - 1);
     judge("add returns to main", DOVETENON_RETURN, MAIN, in_add, 2);
     judge("add calls sum", DOVETENON_CALL, SUM, in_add, 2);
     judge("add calls main", DOVETENON_CALL, MAIN, in_add, 2);
@@ -113,19 +112,16 @@ int main(void)
     judge("function 9 calls main", DOVETENON_CALL, MAIN, in_unlisted, 2);
     judge("add reads object 7", DOVETENON_READ, 7, in_add, 2);
     judge("add reads kwh", DOVETENON_READ, KWH, in_add, 2);
-    report(table);
+    report();
 
-    /* A second entry for Bill: call_context [main, all], uid user, and no grants. */
-    static uint16_t two[DOVETENON_TABLE_WORDS];
-    memcpy(two, table, sizeof two);
-    two[5] = 2;
-    two[ENTRY + 44] = 2;
-    two[ENTRY + 44 + 1] = 3;
-    two[ENTRY + 44 + 4] = 1 + MAIN;
-    two[ENTRY + 44 + 20] = 1;
-    report(two);
+    char longer[sizeof text + sizeof another];
+    memcpy(longer, text, sizeof text - 1);
+    memcpy(longer + sizeof text - 1, another, sizeof another - 1);
+    read_text(longer, sizeof text + sizeof another - 2);
+    report();
 
-    read_page(text, sizeof text - 1);
-    read_page(text, sizeof text - 2);
+    tell(dovetenon_page((const uint8_t *)text, sizeof text - 2));
+    read_text(text, sizeof text - 2);
+    judge("add returns to main", DOVETENON_RETURN, MAIN, in_add, 2);
     return 0;
 }

@@ -34,6 +34,7 @@
 #pragma weak dovetenon_judge_known
 #pragma weak dovetenon_overlap
 #pragma weak dovetenon_page
+#pragma weak dovetenon_read
 
 /* Of the C library, for x86-64 Linux. Its headers are not at hand everywhere. */
 struct timespec { long seconds, nanoseconds; };
@@ -46,7 +47,7 @@ void *memcpy(void *to, const void *from, size_t length);
 size_t strlen(const char *text);
 _Noreturn void _exit(int status);
 
-enum { WELL_FORMED, JUDGE, JUDGE_KNOWN, OVERLAP, PAGE, FUNCTIONS };
+enum { WELL_FORMED, JUDGE, JUDGE_KNOWN, OVERLAP, PAGE, READ, FUNCTIONS };
 
 static const struct {
     const char *name;
@@ -57,6 +58,7 @@ static const struct {
     [JUDGE_KNOWN] = {"judge_known", (void (*)(void))dovetenon_judge_known},
     [OVERLAP] = {"overlap", (void (*)(void))dovetenon_overlap},
     [PAGE] = {"page", (void (*)(void))dovetenon_page},
+    [READ] = {"read", (void (*)(void))dovetenon_read},
 };
 
 static _Noreturn void fail(const char *fault)
@@ -209,8 +211,11 @@ static uint64_t answer(const struct call *call)
     case OVERLAP:
         return dovetenon_overlap(words(slot[0]), words_len(slot[0]),
                                  words(slot[1]), words_len(slot[1]));
-    default:
+    case PAGE:
         return dovetenon_page(text(slot[0]), text_len(slot[0]));
+    default:
+        return dovetenon_read(text(slot[0]), text_len(slot[0]),
+                              words(slot[1]), words_len(slot[1]));
     }
 }
 

@@ -2,13 +2,19 @@
 use mathlib.Core.Path.{_≡_, sym, ap, _∙_}
 use mathlib.Core.List.{List}
 use Prim.Native.Nat.{ℕ}
-use Rattle.paper.specs.Answers.{reportPacked}
+use Rattle.paper.specs.Answers.{readingPacked, reportPacked}
+use Rattle.paper.specs.Promises.{readAnswer, readLeaves}
 use Rattle.overlap.proofs.Agree.{reports-fixed}
 use Rattle.export.specs.Told.{ReportedAs}
 
 -- the table test, the judge and the page: the promise is an equation
 pub one-answer : {A : Type 0} {answer r r′ : A} → r ≡ answer → r′ ≡ answer → r ≡ r′
 one-answer e e′ = e ∙ sym e′
+
+-- the reader: the answer and every word of the table
+pub one-reading : (text table left left′ : List ℕ) (r r′ : ℕ)
+    → (r ≡ readingPacked (readAnswer text table)) × (left ≡ readLeaves text table) → (r′ ≡ readingPacked (readAnswer text table)) × (left′ ≡ readLeaves text table) → (r ≡ r′) × (left ≡ left′)
+one-reading text table left left′ r r′ a b = (one-answer (a .0) (b .0), one-answer (a .1) (b .1))
 
 -- the report: the answer and every word of the witness
 pub one-report : (table old new new′ : List ℕ) (r r′ : ℕ) → ReportedAs table old new r → ReportedAs table old new′ r′ → (r ≡ r′) × (new ≡ new′)

@@ -9,7 +9,7 @@ use paper::Verdict;
 ghost use mathlib.Core.Path.{_≡_};
 ghost use Prim.Native.Nat.{_≤_, _<_};
 ghost use Rattle.paper.specs.Table.{wellFormed, policyIn};
-ghost use Rattle.paper.specs.Promises.{textPage, readingOf, judgeEvent, judgeAnswer};
+ghost use Rattle.paper.specs.Promises.{textPage, readingOf, readAnswer, readLeaves, judgeEvent, judgeAnswer};
 ghost use Rattle.paper.specs.Answers.{clashRest, packed, readingPacked, verdictPacked, reportPacked, ReportFits};
 ghost use Rattle.export.specs.Told.{ReportedAs};
 
@@ -151,4 +151,12 @@ pub extern "C" fn dovetenon_page(text: &[u8]) -> u64
     ensures { λ r. ⌜ r ≡ readingPacked (readingOf (textPage (now (text .entry)))) ⌝ }
 {
     packed_reading(text_page::text_reading(text))
+}
+
+#[no_mangle]
+pub extern "C" fn dovetenon_read(text: &[u8], table: &mut [u16]) -> u64
+    ensures { λ r. ⌜ r ≡ readingPacked (readAnswer (now (text .entry)) (now (table .entry))) ⌝ }
+    ensures { λ r. ⌜ now (table .exit) ≡ readLeaves (now (text .entry)) (now (table .entry)) ⌝ }
+{
+    packed_reading(file_read::read(text, table))
 }

@@ -3,3 +3,5 @@ pub mod Theorems
 pub mod Order
 pub mod Right
 pub mod ListText
+pub mod Keys
+pub mod Answered

@@ -16,18 +16,20 @@ use Rattle.paper.specs.Page.{Outcome, fields, fault, State, Step, pass, stop, F
 use Rattle.paper.specs.Page.{lineStep, atEnd, andFields, after, pageFrom}
 use Rattle.laws.proofs.Places.{drop-take}
 use Rattle.laws.proofs.Tests.{both-true, both-left, either-left, either-right, same-refl}
-use Rattle.laws_page.specs.Right.{isRight, isNumbered, stands, needsBlock, mayFollow, inListingOrder}
+use Rattle.laws_page.specs.Right.{isRight, isNumbered, Ascending, stands, needsBlock, mayFollow, inListingOrder}
 
 -- ---- the field of a line
 
 -- what is known of the field that a line holds after a state, and of the state behind it
 pub record FieldOf (st : State) (n : ℕ) (l : Line) (s : State) (f : Field) : Type 0 where
   pub line : f .line ≡ n
+  pub ended : l .ended ≡ true
   pub placed : anyOf (eqb (f .place)) (placesFor st (l .text)) ≡ true
   pub filled : isLeftEmpty st (atBlock (st .place) (l .text)) ≡ false
   pub after : s ≡ record { place = f .place; bare = isEmpty (f .value); line = f .line }
   pub right : isRight f ≡ true
   pub behind : ℕ
+  pub keyed : length (keyAt (f .place)) ≤ behind
   pub starts : f .start ≡ l .start + behind
   pub value : f .value ≡ drop behind (l .text)
 
@@ -68,7 +70,7 @@ module _ (st : State) (n : ℕ) (l : Line) where
   unfolding unlessEmpty
   yields-unless b s d = yields-cond (isLeftEmpty st b) _ _ (λ e. tt) d
 
-  module _ (p : ℕ) (a : anyOf (eqb p) (placesFor st (l .text)) ≡ true) (w : isLeftEmpty st (atBlock (st .place) (l .text)) ≡ false) where
+  module _ (p : ℕ) (a : anyOf (eqb p) (placesFor st (l .text)) ≡ true) (w : isLeftEmpty st (atBlock (st .place) (l .text)) ≡ false) (u : l .ended ≡ true) where
     yields-bare : isEmpty (drop (length (keyAt p)) (l .text)) ≡ true
         → Yields st n l (fieldStep (record { line = n; place = p; start = l .start + length (keyAt p); value = [] }) true 0)
     unfolding fieldStep isRight
@@ -76,7 +78,7 @@ module _ (st : State) (n : ℕ) (l : Line) where
         inr (
           record { line = n; place = p; start = l .start + length (keyAt p); value = [] },
           refl,
-          record { line = refl; placed = a; filled = w; after = refl; right = refl; behind = length (keyAt p); starts = refl; value = sym (empty-is (drop (length (keyAt p)) (l .text)) e) },
+          record { line = refl; ended = u; placed = a; filled = w; after = refl; right = refl; behind = length (keyAt p); keyed = omega arith; starts = refl; value = sym (empty-is (drop (length (keyAt p)) (l .text)) e) },
         )
 
     yields-value : (k : ℕ) → k ≡ valueFault (rowAt p .value) (drop 1 (drop (length (keyAt p)) (l .text))) → oneSpaceAndValue (drop (length (keyAt p)) (l .text)) ≡ true
@@ -90,11 +92,13 @@ module _ (st : State) (n : ℕ) (l : Line) where
           refl,
           record {
             line = refl;
+            ended = u;
             placed = a;
             filled = w;
             after = rw v refl;
             right = either-right (isEmpty (drop 1 (drop (length (keyAt p)) (l .text)))) _ (eq-eqb (valueFault (rowAt p .value) (drop 1 (drop (length (keyAt p)) (l .text)))) 0 (sym e));
             behind = length (keyAt p) + 1;
+            keyed = omega arith;
             starts = q;
             value = drop-drop 1 (length (keyAt p)) (l .text);
           },
@@ -107,33 +111,51 @@ module _ (st : State) (n : ℕ) (l : Line) where
         yields-cond (isEmpty (drop (length (keyAt p)) (l .text))) _ _ yields-bare
         (λ e. yields-cond (oneSpaceAndValue (drop (length (keyAt p)) (l .text))) _ _ (λ o. yields-value _ refl o) (λ o. tt))
 
-  yields-place : isLeftEmpty st (atBlock (st .place) (l .text)) ≡ false → Yields st n l (placeStep n (placeOf (placesFor st (l .text)) (l .text)) l)
+  yields-place : isLeftEmpty st (atBlock (st .place) (l .text)) ≡ false → l .ended ≡ true → Yields st n l (placeStep n (placeOf (placesFor st (l .text)) (l .text)) l)
   unfolding placeStep
-  yields-place w = go (placeOf (placesFor st (l .text)) (l .text)) refl
+  yields-place w u = go (placeOf (placesFor st (l .text)) (l .text)) refl
     where
       go : (p : ℕ) → placeOf (placesFor st (l .text)) (l .text) ≡ p → Yields st n l (cond (eqb p 0) (stop 4 n) (afterKey n p (l .start + length (keyAt p)) (drop (length (keyAt p)) (l .text))))
       go zero e = tt
       go (suc p) e =
           yields-cond (eqb (suc p) 0) _ _ (λ z. tt)
-          (λ z. yields-rest (suc p) (rw e at (placed-among (placesFor st (l .text)) (l .text) (λ y. let x : suc p ≡ 0 = sym e ∙ y in omega arith))) w)
+          (λ z. yields-rest (suc p) (rw e at (placed-among (placesFor st (l .text)) (l .text) (λ y. let x : suc p ≡ 0 = sym e ∙ y in omega arith))) w u)
 
   pub yields : Yields st n l (lineStep st n l)
   unfolding lineStep
   yields =
       yields-cond (skipped (l .text)) _ _
       (λ e. yields-cond (l .ended) _ _ (λ f. inl (refl, refl)) (λ f. yields-unless false (stop 4 n) (λ g. tt)))
-      (λ e. yields-unless (atBlock (st .place) (l .text)) _ (λ w. yields-cond (l .ended) _ _ (λ f. yields-place w) (λ f. tt)))
+      (λ e. yields-unless (atBlock (st .place) (l .text)) _ (λ w. yields-cond (l .ended) _ _ (λ f. yields-place w f) (λ f. tt)))
+
+-- what is known of the field on a line that passes with one
+pub field-on : (st s : State) (n : ℕ) (l : Line) (f : Field) → lineStep st n l ≡ pass s (f ∷ []) → FieldOf st n l s f
+field-on st s n l f e = go (lineStep st n l) (yields st n l) e
+  where
+    go : (x : Step) → Yields st n l x → x ≡ pass s (f ∷ []) → FieldOf st n l s f
+    go (pass z gs) d q =
+        let u : z ≡ s = cc in
+        let v : gs ≡ f ∷ [] = cc in
+        ⊎-elim
+        (λ (y : (z ≡ st) × (gs ≡ [])). absurd (let w : f ∷ [] ≡ [] = sym v ∙ y .1 in let k : _≡_ {A = ℕ} 0 1 = cc in omega arith))
+        (λ (y : (g : Field) × (gs ≡ g ∷ []) × FieldOf st n l z g).
+        let w : y .0 ∷ [] ≡ f ∷ [] = sym (y .1) ∙ v in
+        let g : y .0 ≡ f = cc in
+        rw (u, g) at (y .2))
+        d
+    go (stop k m) d q = absurd (let w : _≡_ {A = ℕ} 0 1 = cc in omega arith)
 
 -- every line is good, the first being line n
 abbrev Each : (ℕ → Line → Type 0) → ℕ → List Line → Type 0
 Each Good n [] = Unit
 Each Good n (l ∷ ls) = Good n l × Each Good (n + 1) ls
 
--- ---- a page, field by field: what holds at its end and is kept by each field holds of it
+-- ---- a page, line by line: what holds at its end, of lines with one that is skipped more, and of those with a field more, holds of it
 
-module _ (P : State → List Field → Type 0) (Good : ℕ → Line → Type 0)
-    (ends : (st : State) (n : ℕ) → atEnd st n ≡ fields [] → P st [])
-    (more : (st s : State) (n : ℕ) (l : Line) (f : Field) (fs : List Field) → Good n l → FieldOf st n l s f → P s fs → P st (f ∷ fs)) where
+module _ (P : State → ℕ → List Field → Type 0) (Good : ℕ → Line → Type 0)
+    (ends : (st : State) (n : ℕ) → atEnd st n ≡ fields [] → P st n [])
+    (skip : (st : State) (n : ℕ) (fs : List Field) → P st (n + 1) fs → P st n fs)
+    (more : (st s : State) (n : ℕ) (l : Line) (f : Field) (fs : List Field) → Good n l → FieldOf st n l s f → P s (n + 1) fs → P st n (f ∷ fs)) where
   no-more : (st : State) (n : ℕ) (fs : List Field) → atEnd st n ≡ fields fs → fs ≡ []
   unfolding atEnd
   no-more st n fs e = go (isLeftEmpty st false) (rowAt (st .place) .last) e
@@ -143,31 +165,38 @@ module _ (P : State → List Field → Type 0) (Good : ℕ → Line → Type 0)
       go false true q = cc
       go false false q = absurd (let z : _≡_ {A = ℕ} 0 1 = cc in omega arith)
 
-  pub by-fields : (st : State) (n : ℕ) (ls : List Line) (fs : List Field) → Each Good n ls → pageFrom st n ls ≡ fields fs → P st fs
+  pub by-lines : (st : State) (n : ℕ) (ls : List Line) (fs : List Field) → Each Good n ls → pageFrom st n ls ≡ fields fs → P st n fs
   unfolding pageFrom
-  by-fields st n [] fs g e = let q : fs ≡ [] = no-more st n fs e in rw q (ends st n (rw q at e))
-  by-fields st n (l ∷ ls) fs g e = go (lineStep st n l) (yields st n l) e (λ s gs q. by-fields s (n + 1) ls gs (g .1) q)
+  by-lines st n [] fs g e = let q : fs ≡ [] = no-more st n fs e in rw q (ends st n (rw q at e))
+  by-lines st n (l ∷ ls) fs g e = go (lineStep st n l) (yields st n l) e (λ s gs q. by-lines s (n + 1) ls gs (g .1) q)
     where
       skips : (s : State) (gs : List Field) → s ≡ st → gs ≡ [] → andFields gs (pageFrom s (n + 1) ls) ≡ fields fs
-          → ((x : State) (hs : List Field) → pageFrom x (n + 1) ls ≡ fields hs → P x hs) → P st fs
-      skips s gs a b q ih = rw a at (ih s fs (kept (pageFrom s (n + 1) ls) (rw b at q)))
+          → ((x : State) (hs : List Field) → pageFrom x (n + 1) ls ≡ fields hs → P x (n + 1) hs) → P st n fs
+      skips s gs a b q ih = skip st n fs (rw a at (ih s fs (kept (pageFrom s (n + 1) ls) (rw b at q))))
         where
           kept : (o : Outcome) → andFields [] o ≡ fields fs → o ≡ fields fs
           kept (fields hs) r = r
           kept (fault k m) r = r
 
-      holds : (s : State) (f : Field) → FieldOf st n l s f → (o : Outcome) → andFields (f ∷ []) o ≡ fields fs → ((hs : List Field) → o ≡ fields hs → P s hs) → P st fs
+      holds : (s : State) (f : Field) → FieldOf st n l s f → (o : Outcome) → andFields (f ∷ []) o ≡ fields fs → ((hs : List Field) → o ≡ fields hs → P s (n + 1) hs) → P st n fs
       holds s f d (fields hs) q ih = let r : f ∷ hs ≡ fs = cc in rw (← r) (more st s n l f hs (g .0) d (ih hs refl))
       holds s f d (fault k m) q ih = absurd (let z : _≡_ {A = ℕ} 0 1 = cc in omega arith)
 
       go : (x : Step) → Yields st n l x → after x (λ st′. pageFrom st′ (n + 1) ls) ≡ fields fs
-          → ((y : State) (hs : List Field) → pageFrom y (n + 1) ls ≡ fields hs → P y hs) → P st fs
+          → ((y : State) (hs : List Field) → pageFrom y (n + 1) ls ≡ fields hs → P y (n + 1) hs) → P st n fs
       go (pass s gs) d q ih =
           ⊎-elim
           (λ (x : (s ≡ st) × (gs ≡ [])). skips s gs (x .0) (x .1) q ih)
           (λ (x : (f : Field) × (gs ≡ f ∷ []) × FieldOf st n l s f). holds s (x .0) (x .2) (pageFrom s (n + 1) ls) (rw (x .1) at q) (ih s))
           d
       go (stop k m) d q ih = absurd (let z : _≡_ {A = ℕ} 0 1 = cc in omega arith)
+
+-- the same of what does not depend on the line
+module _ (P : State → List Field → Type 0) (Good : ℕ → Line → Type 0)
+    (ends : (st : State) (n : ℕ) → atEnd st n ≡ fields [] → P st [])
+    (more : (st s : State) (n : ℕ) (l : Line) (f : Field) (fs : List Field) → Good n l → FieldOf st n l s f → P s fs → P st (f ∷ fs)) where
+  pub by-fields : (st : State) (n : ℕ) (ls : List Line) (fs : List Field) → Each Good n ls → pageFrom st n ls ≡ fields fs → P st fs
+  by-fields = by-lines (λ st n fs. P st fs) Good ends (λ st n fs h. h) more
 
 -- ---- what holds of each field
 
@@ -199,6 +228,30 @@ lines-numbered n (l ∷ ls) h = (h, lines-numbered (n + 1) ls (omega arith))
 pub fields-numbered : (st : State) (n : ℕ) (ls : List Line) (fs : List Field) → 1 ≤ n → pageFrom st n ls ≡ fields fs → allOf isNumbered fs ≡ true
 unfolding isNumbered
 fields-numbered st n ls fs h e = every isNumbered (λ k l. 1 ≤ k) (λ x s k l f g d. le-leb 1 (f .line) (omega (arith, d .line))) st n ls fs (lines-numbered n ls h) e
+
+lines-low : (most n : ℕ) (ls : List Line) → n + length ls ≤ most + 1 → Each (λ k l. k ≤ most) n ls
+lines-low most n [] h = tt
+lines-low most n (l ∷ ls) h = (omega arith, lines-low most (n + 1) ls (omega arith))
+
+-- and none past the last line
+pub fields-low : (most : ℕ) (st : State) (n : ℕ) (ls : List Line) (fs : List Field) → n + length ls ≤ most + 1 → pageFrom st n ls ≡ fields fs → allOf (λ f. leb (f .line) most) fs ≡ true
+fields-low most st n ls fs h e =
+    every (λ f. leb (f .line) most) (λ k l. k ≤ most) (λ x s k l f g d. le-leb (f .line) most (omega (arith, d .line))) st n ls fs (lines-low most n ls h) e
+
+-- ---- in which order their lines stand
+
+pub ascending-from : {A : Type 0} (line : A → ℕ) (n k : ℕ) (xs : List A) → n ≤ k → Ascending line k xs → Ascending line n xs
+ascending-from line n k [] h a = tt
+ascending-from line n k (x ∷ xs) h a = (omega (arith, a .0), a .1)
+
+-- they ascend from the number of the first line on
+pub fields-ascend : (st : State) (n : ℕ) (ls : List Line) (fs : List Field) → pageFrom st n ls ≡ fields fs → Ascending (λ f. f .line) n fs
+fields-ascend st n ls fs e =
+    by-lines (λ st n fs. Ascending (λ f. f .line) n fs) (λ k l. Unit)
+    (λ st n e. tt)
+    (λ st n fs a. ascending-from (λ f. f .line) n (n + 1) fs (omega arith) a)
+    (λ st s n l f fs g d a. (omega (arith, d .line), rw (← d .line) at a))
+    st n ls fs (any-line n ls) e
 
 -- ---- where the values stand
 

@@ -14,11 +14,12 @@ use Rattle.paper.specs.Page.{Outcome, fields, fault, State, Step, pass, stop, F
 use Rattle.paper.specs.Page.{lineStep, atEnd, andFields, after, pageFrom}
 use borrow.Author.Tests.{not-true}
 use Rattle.laws.proofs.Tests.{both-true, both-left, both-right}
+use Rattle.laws_page.specs.First.{Breaks}
 
 -- a stop has a number, and lies on line n, or is the 9 of the field above
 pub record Stops (st : State) (n : ℕ) (l : Line) (k m : ℕ) : Type 0 where
   pub numbered : k ≡ 0 → ⊥
-  pub lies : (m ≡ n) ⊎ ((m ≡ st .line) × (isLeftEmpty st false ≡ true) × (k ≡ 9) × ((skipped (l .text) ≡ true) ⊎ (atBlock (st .place) (l .text) ≡ false)))
+  pub lies : (m ≡ n) ⊎ ((m ≡ st .line) × (isLeftEmpty st false ≡ true) × (k ≡ 9) × Breaks st l)
 
 -- a pass is that of a skipped line, or of a field of line n
 abbrev pub Does : State → ℕ → Line → Step → Type 0
@@ -42,7 +43,7 @@ module _ (st : State) (n : ℕ) (l : Line) where
   does-cond true a b p q = p
   does-cond false a b p q = q
 
-  does-unless : (b : Bool) (s : Step) → (b ≡ false → (skipped (l .text) ≡ true) ⊎ (atBlock (st .place) (l .text) ≡ false)) → Does st n l s → Does st n l (unlessEmpty st b s)
+  does-unless : (b : Bool) (s : Step) → (b ≡ false → Breaks st l) → Does st n l s → Does st n l (unlessEmpty st b s)
   unfolding unlessEmpty
   does-unless b s w d = go (isLeftEmpty st b) refl
     where
@@ -71,13 +72,13 @@ module _ (st : State) (n : ℕ) (l : Line) where
     where
       ends : (t : Bool) → l .ended ≡ t → skipped (l .text) ≡ true → Does st n l (cond t (pass st []) (unlessEmpty st false (stop 4 n)))
       ends true e s = inl (refl, s, e)
-      ends false e s = does-unless false (stop 4 n) (λ z. inl s) (stop-here 3)
+      ends false e s = does-unless false (stop 4 n) (λ z. inl (s, e)) (stop-here 3)
 
       go : (t : Bool) → skipped (l .text) ≡ t
           → Does st n l (cond t (cond (l .ended) (pass st []) (unlessEmpty st false (stop 4 n)))
           (unlessEmpty st (atBlock (st .place) (l .text)) (cond (l .ended) (placeStep n (placeOf (placesFor st (l .text)) (l .text)) l) (stop 4 n))))
       go true e = ends (l .ended) refl e
-      go false e = does-unless (atBlock (st .place) (l .text)) _ (λ z. inr z) (does-cond (l .ended) _ _ (does-place (placeOf (placesFor st (l .text)) (l .text))) (stop-here 3))
+      go false e = does-unless (atBlock (st .place) (l .text)) _ (λ z. inr (e, z)) (does-cond (l .ended) _ _ (does-place (placeOf (placesFor st (l .text)) (l .text))) (stop-here 3))
 
 -- ---- a refusal has a number, and its line is in the text or one past it
 
@@ -135,7 +136,7 @@ bounded st n (l ∷ ls) k m h e = go (lineStep st n l) refl (does st n l) e (λ 
           within =
               ⊎-elim
               (λ (x : m′ ≡ n). omega arith)
-              (λ (x : (m′ ≡ st .line) × (isLeftEmpty st false ≡ true) × (k′ ≡ 9) × ((skipped (l .text) ≡ true) ⊎ (atBlock (st .place) (l .text) ≡ false))). omega (arith, x .0))
+              (λ (x : (m′ ≡ st .line) × (isLeftEmpty st false ≡ true) × (k′ ≡ 9) × Breaks st l). omega (arith, x .0))
               (d .lies);
         }
 

@@ -2,13 +2,13 @@
 use mathlib.Core.Path.{_≡_, refl, sym, ap, _∙_}
 use mathlib.Core.List.{List, [], _∷_}
 use mathlib.Core.Bool.{Bool, true, false, cond}
-use mathlib.Core.Logic.{_⊎_, ⊎-elim}
+use mathlib.Core.Logic.{⊎-elim}
 use Prim.Native.Nat.{ℕ, _+_}
 use native.Mathlib.Omega.{arith}
 use Rattle.paper.specs.Text.{Line, lines, skipped}
-use Rattle.paper.specs.Listing.{rowAt, atBlock}
-use Rattle.paper.specs.Page.{Outcome, fields, fault, State, Step, pass, stop, Field, beforeFirst, isLeftEmpty, lineStep, atEnd, andFields, after, pageFrom, pageOf}
-use Rattle.laws_page.specs.First.{Free, none, one, AllSkipped, Own, Empty, Missing, Above, First, own, empty, missing, above}
+use Rattle.paper.specs.Listing.{rowAt}
+use Rattle.paper.specs.Page.{fields, fault, State, Step, pass, stop, Field, beforeFirst, isLeftEmpty, lineStep, atEnd, after, pageFrom, pageOf}
+use Rattle.laws_page.specs.First.{Free, none, one, AllSkipped, Own, Empty, Missing, Breaks, Above, First, own, empty, missing, above, Smallest, on-it, left-empty, past-the-last}
 use Rattle.laws_page.specs.First as first
 use Rattle.laws_page.proofs.Steps.{Does, does, refused-behind}
 
@@ -40,6 +40,7 @@ module _ (st s : State) (n : ℕ) (l : Line) (ls : List Line) (fs : List Field) 
     number = omega (arith, o .number);
     free = first.Free.one p (o .free);
     bare = o .bare;
+    own = o .own;
     nine = o .nine;
     due = o .due;
     skips = o .skips;
@@ -68,6 +69,7 @@ module _ (st s : State) (n : ℕ) (l : Line) (ls : List Line) (fs : List Field) 
     number = omega (arith, o .number);
     free = first.Free.none;
     bare = let q : n ≡ m = omega (arith, o .number) in rw q at p;
+    own = sym (o .number);
     nine = o .nine;
     due = o .due;
     skips = o .skips;
@@ -137,7 +139,7 @@ first-line st n (l ∷ ls) k m e = go (lineStep st n l) refl (does st n l) e (λ
         (λ (x : m′ ≡ n).
         let w : n ≡ m = omega arith in
         own (record { before = []; line = l; behind = ls; state = st; splits = refl; number = omega arith; free = first.Free.none; faulty = rw (w, u, v) at p }))
-        (λ (x : (m′ ≡ st .line) × (isLeftEmpty st false ≡ true) × (k′ ≡ 9) × ((skipped (l .text) ≡ true) ⊎ (atBlock (st .place) (l .text) ≡ false))).
+        (λ (x : (m′ ≡ st .line) × (isLeftEmpty st false ≡ true) × (k′ ≡ 9) × Breaks st l).
         above (record { between = []; behind = l ∷ ls; splits = refl; number = sym v ∙ x .0; nine = sym u ∙ x .2; due = x .1; skips = first.AllSkipped.none; apart = x .3 }))
         (d .lies)
 
@@ -146,11 +148,6 @@ first-line st n (l ∷ ls) k m e = go (lineStep st n l) refl (does st n l) e (λ
 nothing-above : isLeftEmpty beforeFirst false ≡ true → ⊥
 unfolding isLeftEmpty beforeFirst
 nothing-above h = let z : _≡_ {A = ℕ} 0 1 = cc in omega arith
-
-pub data Smallest (t : List ℕ) (k m : ℕ) : Type 0 where
-  on-it : Own beforeFirst 1 (lines t) k m → Smallest t k m
-  left-empty : Empty beforeFirst 1 (lines t) k m → Smallest t k m
-  past-the-last : Missing beforeFirst 1 (lines t) k m → Smallest t k m
 
 -- the number and line that a page gives are those of the first line at fault: every line before it passes
 pub smallest : (t : List ℕ) (k m : ℕ) → pageOf t ≡ fault k m → Smallest t k m

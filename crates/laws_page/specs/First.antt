@@ -5,9 +5,9 @@ use mathlib.Core.Bool.{true, false}
 use mathlib.Core.Logic.{_⊎_}
 use Prim.Native.Nat.{ℕ, _+_}
 use lib.ListN.{length}
-use Rattle.paper.specs.Text.{Line, skipped}
+use Rattle.paper.specs.Text.{Line, lines, skipped}
 use Rattle.paper.specs.Listing.{atBlock}
-use Rattle.paper.specs.Page.{fault, State, pass, stop, Field, isLeftEmpty, lineStep, atEnd}
+use Rattle.paper.specs.Page.{fault, State, pass, stop, Field, beforeFirst, isLeftEmpty, lineStep, atEnd}
 
 -- every one of the lines passes, from line n on, and leads from one state to another
 pub data Free : State → ℕ → List Line → State → Type 0 where
@@ -19,10 +19,14 @@ pub data AllSkipped : List Line → Type 0 where
   none : AllSkipped []
   one : {l : Line} {ls : List Line} → skipped (l .text) ≡ true → l .ended ≡ true → AllSkipped ls → AllSkipped (l ∷ ls)
 
--- the block of the field above does not follow: the text ends, or a line that is skipped and not ended stands there, or one that is not in the block
+-- a line that does not begin the block of the field above: it is skipped and LF does not end it, or it counts and does not stand there
+abbrev pub Breaks : State → Line → Type 0
+Breaks st l = ((skipped (l .text) ≡ true) × (l .ended ≡ false)) ⊎ ((skipped (l .text) ≡ false) × (atBlock (st .place) (l .text) ≡ false))
+
+-- the block of the field above does not follow: the text ends, or such a line stands there
 abbrev pub Apart : State → List Line → Type 0
 Apart st [] = Unit
-Apart st (l ∷ ls) = (skipped (l .text) ≡ true) ⊎ (atBlock (st .place) (l .text) ≡ false)
+Apart st (l ∷ ls) = Breaks st l
 
 -- line m itself is at fault, and the lines before it are not
 pub record Own (st : State) (n : ℕ) (ls : List Line) (k m : ℕ) : Type 0 where
@@ -48,6 +52,7 @@ pub record Empty (st : State) (n : ℕ) (ls : List Line) (k m : ℕ) : Type 0 wh
   pub number : m ≡ n + length before
   pub free : Free st n before state
   pub bare : lineStep state m line ≡ pass left told
+  pub own : left .line ≡ m
   pub nine : k ≡ 9
   pub due : isLeftEmpty left false ≡ true
   pub skips : AllSkipped between
@@ -77,3 +82,9 @@ pub data First (st : State) (n : ℕ) (ls : List Line) (k m : ℕ) : Type 0 wher
   empty : Empty st n ls k m → First st n ls k m
   missing : Missing st n ls k m → First st n ls k m
   above : Above st ls k m → First st n ls k m
+
+-- the first line of a text at fault is line m, with number k
+pub data Smallest (t : List ℕ) (k m : ℕ) : Type 0 where
+  on-it : Own beforeFirst 1 (lines t) k m → Smallest t k m
+  left-empty : Empty beforeFirst 1 (lines t) k m → Smallest t k m
+  past-the-last : Missing beforeFirst 1 (lines t) k m → Smallest t k m

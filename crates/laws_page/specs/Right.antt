@@ -1,7 +1,7 @@
 -- What holds of every field of a page that is not refused.
 use mathlib.Core.List.{List, [], _∷_}
 use mathlib.Core.Bool.{Bool, not, _&&_, _||_}
-use Prim.Native.Nat.{ℕ}
+use Prim.Native.Nat.{ℕ, _+_, _≤_}
 use lib.Dec.{eqb, leb}
 use lib.ListN.{length, take, drop}
 use Rattle.paper.specs.Common.{isEmpty, anyOf, same}
@@ -15,6 +15,11 @@ isRight f = isEmpty (f .value) || eqb (valueFault (rowAt (f .place) .value) (f .
 -- its line is one: "numbered, from 1"
 unfoldable pub isNumbered : Field → Bool
 isNumbered f = leb 1 (f .line)
+
+-- the lines of these are n or more, and ascend
+abbrev pub Ascending : {A : Type 0} → (A → ℕ) → ℕ → List A → Type 0
+Ascending line n [] = Unit
+Ascending line n (x ∷ xs) = (n ≤ line x) × Ascending line (line x + 1) xs
 
 -- its value is the very stretch of the text from its start on
 unfoldable pub stands : List ℕ → Field → Bool

@@ -39,7 +39,7 @@ unfolding elementBelow elementIn
 element-below n zero = sym (leb·zero n)
 element-below n (suc f) = refl
 
-sort-read : (s : Sort) → sortIn (sortNumber s) ≡ s
+pub sort-read : (s : Sort) → sortIn (sortNumber s) ≡ s
 unfolding sortNumber sortIn
 sort-read anyone = refl
 sort-read variable = refl

@@ -13,10 +13,13 @@ const TABLE_WORDS: usize = 65536;
 // A stack of more frames is as good as one of so many: both are refused.
 const STACK_WORDS: usize = 128;
 
-// What the witness holds before the call, and how many words of it are lent at most.
+// What words lent to be written hold before the call, and how many of the witness are lent at most.
 const UNTOUCHED: u16 = 7;
 
 const WITNESS_WORDS: usize = 64;
+
+// More words than are lent for a table that is read into.
+const LENT_WORDS: usize = 16640;
 
 // The next byte of a file; past its end, 0.
 fn byte(file: &[u8], at: &mut usize) -> u8 {
@@ -254,12 +257,48 @@ fn replay_page(file: &[u8], at: &mut usize, tally: Tally) -> Tally {
     tally.with(answer == wide(file, at))
 }
 
+// Puts a word into every place from one on.
+fn fill(words: &mut [u16], from: usize, w: u16) {
+    let mut i = from;
+    while i < words.len() {
+        words[i] = w;
+        i += 1;
+    }
+}
+
+// The text read into a table with so many words lent.
+fn read(text: &[u8], table: &mut [u16], lent: usize) -> u64 {
+    let base: usize = 0;
+    if lent <= table.len() {
+        return export::dovetenon_read(text, &mut table[base..lent]);
+    }
+    export::dovetenon_read(text, table)
+}
+
+// A text, the answer to it, and the table that it is read into: the words behind those that are stored stay as they were.
+fn replay_reading(file: &[u8], at: &mut usize, tally: Tally) -> Tally {
+    let mut table = [UNTOUCHED; LENT_WORDS];
+    let mut stored = [0u16; LENT_WORDS];
+    let n = long(file, at) as usize;
+    let text = stretch(file, at, n);
+    let lent = short(file, at) as usize;
+    let answer = read(text, &mut table, lent);
+    let same = answer == wide(file, at);
+    let written = read_table(file, at, &mut stored);
+    fill(&mut stored, written, UNTOUCHED);
+    if table::same_words(&table, &stored) {
+        return tally.with(same);
+    }
+    tally.with(false)
+}
+
 // What the cases of a file are.
 enum Cases {
     Trials,
     Events,
     Reports,
     Pages,
+    Readings,
 }
 
 fn replay_case(cases: Cases, file: &[u8], at: &mut usize, tally: Tally) -> Tally {
@@ -268,6 +307,7 @@ fn replay_case(cases: Cases, file: &[u8], at: &mut usize, tally: Tally) -> Tally
         Cases::Events => replay_table(file, at, false, tally),
         Cases::Reports => replay_report(file, at, tally),
         Cases::Pages => replay_page(file, at, tally),
+        Cases::Readings => replay_reading(file, at, tally),
     }
 }
 
@@ -320,5 +360,11 @@ fn main() {
         b"page.cases",
         Cases::Pages,
         b" stored pages read, ",
+    );
+    replay(
+        &mut room,
+        b"read.cases",
+        Cases::Readings,
+        b" stored texts read into tables, ",
     );
 }

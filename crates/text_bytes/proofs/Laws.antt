@@ -1,12 +1,18 @@
--- The classes of bytes: what the code computes of a byte is the paper's test.
-use mathlib.Core.Path.{_≡_}
-use mathlib.Core.Bool.{Bool, not, _&&_, _||_, or-assoc, or-false}
-use Prim.Native.Nat.{ℕ}
+-- The classes of bytes: what the code computes of a byte is the paper's test. And the ends of a part.
+use mathlib.Core.Path.{_≡_, sym, _∙_}
+use mathlib.Core.List.{List}
+use mathlib.Core.Bool.{Bool, not, _&&_, _||_, and-assoc, and-true, or-assoc, or-false}
+use Prim.Native.Nat.{ℕ, _+_, _-_, _<_, _≤_}
 use Prim.Native.Char.{code}
+use native.Mathlib.Omega.{arith}
 use lib.Dec.{eqb}
-use Rattle.paper.specs.Common.{within, anyOf}
+use lib.ListN.{length, getD, take, drop, length-drop, drop-of-length-le}
+use lib.Seq.{take-nil, take-all}
+use Rattle.paper.specs.Common.{within, allOf, anyOf}
+use Rattle.paper.specs.Text.{comma, space}
 use Rattle.paper.specs.Scalars.{isLetter, isDigit, nameByte, identifierByte, identifierFirst}
-use Rattle.text_bytes.specs.Classes.{isOf}
+use Rattle.laws.proofs.Places.{drop-more}
+use Rattle.text_bytes.specs.Classes.{isOf, isOfList}
 use Rattle.text_bytes.specs.declared.Class.{Class}
 
 module _ (b : ℕ) where
@@ -32,5 +38,33 @@ module _ (b : ℕ) where
   unfolding identifierByte anyOf
   identifier-byte-is visible e = rw e (simp (or-assoc, or-false))
 
+  pub of-list-is : (class : Class) (r : Bool) → r ≡ isOf class b → (r || eqb b comma || eqb b space) ≡ isOfList class b
+  of-list-is class r e = rw e
+
   pub of-known-class : (class known : Class) (r : Bool) → class ≡ known → r ≡ isOf known b → r ≡ isOf class b
   of-known-class class known r e f = rw e f
+
+-- ---- a part from a start to an end
+
+module _ (t : List ℕ) (start end : ℕ) where
+  pub part-past : length t ≤ start → take 0 t ≡ take (end - start) (drop start t)
+  part-past h = rw (drop-of-length-le t h) (sym (take-nil (end - start)))
+
+  pub part-none : end ≤ start → take 0 t ≡ take (end - start) (drop start t)
+  part-none h = let e : end - start ≡ 0 = omega arith in rw e
+
+  pub part-rest : length t ≤ end → take (length t - start) (drop start t) ≡ take (end - start) (drop start t)
+  part-rest h =
+      let l = length-drop start t in
+      take-all (length t - start) (drop start t) (omega arith) ∙ sym (take-all (end - start) (drop start t) (omega arith))
+
+-- ---- every byte passes a test, in a loop without exit: those before it did, and so do those from it on, exactly where all do
+
+module _ (f : ℕ → Bool) (s : List ℕ) (i : ℕ) (right : Bool) (inv : (right && allOf f (drop i s)) ≡ allOf f s) where
+  pub right-again : (r : Bool) → i < length s → r ≡ f (getD s i 0) → (right && r && allOf f (drop (i + 1) s)) ≡ allOf f s
+  unfolding allOf
+  right-again r h e = rw (← inv, drop-more s i h, e) (and-assoc right (f (getD s i 0)) (allOf f (drop (i + 1) s)))
+
+  pub right-done : length s ≤ i → right ≡ allOf f s
+  unfolding allOf
+  right-done h = rw (← inv, drop-of-length-le s h, and-true)

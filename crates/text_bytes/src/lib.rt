@@ -2,12 +2,12 @@
 pub mod byte;
 
 ghost use mathlib.Core.Path.{_≡_};
-ghost use Prim.Native.Nat.{_+_};
-ghost use lib.ListN.{drop};
+ghost use Prim.Native.Nat.{_+_, _-_};
+ghost use lib.ListN.{take, drop};
 ghost use Rattle.paper.specs.Common.{within, allOf, same, isFrontOf};
 ghost use Rattle.paper.specs.Scalars.{isLetter, isDigit, nameByte, identifierByte, identifierFirst};
 ghost use Rattle.laws.specs.Pieces.{before};
-ghost use Rattle.text_bytes.specs.Classes.{isOf};
+ghost use Rattle.text_bytes.specs.Classes.{isOf, isOfList};
 
 // The classes of bytes that a stretch can be asked to keep to.
 pub enum Class {
@@ -61,6 +61,22 @@ pub fn find(s: &[u8], at: usize, c: u8) -> usize
         i += 1;
     }
     i
+}
+
+// From a start to an end: of both, only what stands within the bytes counts.
+pub fn part(t: &[u8], start: usize, end: usize) -> &[u8]
+    ensures { λ r. ⌜ now r ≡ take (end - start) (drop start (now (t .entry))) ⌝ }
+{
+    if t.len() <= start {
+        return &t[..0];
+    }
+    if end <= start {
+        return &t[..0];
+    }
+    if t.len() <= end {
+        return &t[start..];
+    }
+    &t[start..end]
 }
 
 pub fn within(low: u8, high: u8, b: u8) -> bool
@@ -124,4 +140,23 @@ pub fn all_of(class: Class, s: &[u8]) -> bool
         i += 1;
     }
     true
+}
+
+fn is_of_list(class: Class, b: u8) -> bool
+    ensures { λ r. ⌜ r ≡ isOfList class b ⌝ }
+{
+    is_of(class, b) | (b == byte::COMMA) | (b == byte::SPACE)
+}
+
+// Every byte is of a list of the class. The loop has no exit, so that it takes many bytes at a time.
+pub fn all_of_list(class: Class, s: &[u8]) -> bool
+    ensures { λ r. ⌜ r ≡ allOf (isOfList class) (now (s .entry)) ⌝ }
+{
+    let mut right = true;
+    let mut i: usize = 0;
+    while i < s.len() {
+        right = right & is_of_list(class, s[i]);
+        i += 1;
+    }
+    right
 }

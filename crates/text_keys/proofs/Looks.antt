@@ -15,11 +15,9 @@ use Rattle.paper.specs.Text.{column}
 use Rattle.paper.specs.Listing.{listing, rowAt, keyAt, dashed, alongside, beginsBlock}
 use Rattle.paper.specs.Page.{placeOf}
 use Rattle.text_keys.specs.Rows.{Said, keyText, placesUpTo, seen, told}
-use Rattle.text_keys.specs.Asked.{fits, answer}
+use Rattle.text_keys.specs.Asked.{answer}
 use Rattle.text_keys.specs.declared.rows.Row.{Row}
 use Rattle.text_keys.specs.declared.rows.Key.{Key}
-use Rattle.text_keys.specs.declared.Ask.{Ask}
-use Rattle.text_keys.specs.declared.Ask.the-variants.{Begins, Alongside}
 use Rattle.text_keys.specs.declared.Answer.{Answer}
 use Rattle.text_keys.specs.declared.Answer.the-variants.{No, Yes}
 
@@ -47,23 +45,25 @@ module _ (key l : List ℕ) (a b : ℕ) (ea : a ≡ column l) (eb : b ≡ column
 
 -- ---- a question and its answer
 
-module _ (ask : Ask) (key l : List ℕ) (r : Bool) where
-  pub fits-begins : ask ≡ Begins → r ≡ isFrontOf key l → r ≡ fits ask key l
-  fits-begins e f = rw (e, f)
-
-  pub fits-alongside : ask ≡ Alongside → r ≡ alongside key l → r ≡ fits ask key l
-  fits-alongside e f = rw (e, f)
-
-  pub answer-yes : r ≡ fits ask key l → r ≡ true → Yes (length key) ≡ answer ask key l
+module _ (key l : List ℕ) (r : Bool) (e : r ≡ isFrontOf key l) where
+  pub answer-yes : r ≡ true → Yes (length key) ≡ answer key l
   unfolding answer
-  answer-yes e t = rw (← e, t)
+  answer-yes t = rw (← e, t)
 
-  pub answer-no : r ≡ fits ask key l → r ≡ false → No ≡ answer ask key l
+  pub answer-no : r ≡ false → No ≡ answer key l
   unfolding answer
-  answer-no e t = rw (← e, t)
+  answer-no t = rw (← e, t)
 
-pub answer-of : (ask : Ask) (key k : Key) (l : List ℕ) (r : Answer) → key ≡ k → r ≡ answer ask (keyText k) l → r ≡ answer ask (keyText key) l
-answer-of ask key k l r e f = f ∙ ap (λ (x : Key). answer ask (keyText x) l) (sym e)
+-- a key that is known by its name
+module _ (key k : Key) (e : key ≡ k) where
+  pub answer-of : (l : List ℕ) (r : Answer) → r ≡ answer (keyText k) l → r ≡ answer (keyText key) l
+  answer-of l r f = f ∙ ap (λ (x : Key). answer (keyText x) l) (sym e)
+
+  pub column-of : (n : ℕ) → n ≡ column (keyText k) → n ≡ column (keyText key)
+  column-of n f = f ∙ ap (λ (x : Key). column (keyText x)) (sym e)
+
+  pub dashed-of : (r : Bool) → r ≡ dashed (keyText k) → r ≡ dashed (keyText key)
+  dashed-of r f = f ∙ ap (λ (x : Key). dashed (keyText x)) (sym e)
 
 -- the row that the code found has the key of the place
 key-of : (p : ℕ) (r : Row) → seen r ≡ told (rowAt p) → keyText (r .key) ≡ keyAt p
@@ -71,27 +71,27 @@ unfolding keyAt
 key-of p r e = ap (λ (s : Said). s .key) e
 
 -- a yes says that the key fits, and how long it is
-module _ (ask : Ask) (p : ℕ) (row : Row) (l : List ℕ) (r : Answer) (e : seen row ≡ told (rowAt p)) (f : r ≡ answer ask (keyText (row .key)) l) where
-  told-answer : r ≡ cond (fits ask (keyAt p) l) (Yes (length (keyAt p))) No
+module _ (p : ℕ) (row : Row) (l : List ℕ) (r : Answer) (e : seen row ≡ told (rowAt p)) (f : r ≡ answer (keyText (row .key)) l) where
+  told-answer : r ≡ cond (isFrontOf (keyAt p) l) (Yes (length (keyAt p))) No
   unfolding answer
-  told-answer = f ∙ ap (λ (k : List ℕ). answer ask k l) (key-of p row e)
+  told-answer = f ∙ ap (λ (k : List ℕ). answer k l) (key-of p row e)
 
-  pub yes-fits : (n : ℕ) → r ≡ Yes n → fits ask (keyAt p) l ≡ true
-  yes-fits n y = go (fits ask (keyAt p) l) (sym told-answer ∙ y)
+  pub yes-fits : (n : ℕ) → r ≡ Yes n → isFrontOf (keyAt p) l ≡ true
+  yes-fits n y = go (isFrontOf (keyAt p) l) (sym told-answer ∙ y)
     where
       go : (t : Bool) → cond t (Yes (length (keyAt p))) No ≡ Yes n → t ≡ true
       go true q = refl
       go false q = absurd (let z : _≡_ {A = ℕ} 0 1 = cc in omega arith)
 
   pub yes-length : (n : ℕ) → r ≡ Yes n → n ≡ length (keyAt p)
-  yes-length n y = go (fits ask (keyAt p) l) (sym told-answer ∙ y)
+  yes-length n y = go (isFrontOf (keyAt p) l) (sym told-answer ∙ y)
     where
       go : (t : Bool) → cond t (Yes (length (keyAt p))) No ≡ Yes n → n ≡ length (keyAt p)
       go true q = cc
       go false q = absurd (let z : _≡_ {A = ℕ} 0 1 = cc in omega arith)
 
-  pub no-fits : r ≡ No → fits ask (keyAt p) l ≡ false
-  no-fits y = go (fits ask (keyAt p) l) (sym told-answer ∙ y)
+  pub no-fits : r ≡ No → isFrontOf (keyAt p) l ≡ false
+  no-fits y = go (isFrontOf (keyAt p) l) (sym told-answer ∙ y)
     where
       go : (t : Bool) → cond t (Yes (length (keyAt p))) No ≡ No → t ≡ false
       go true q = absurd (let z : _≡_ {A = ℕ} 0 1 = cc in omega arith)
@@ -104,10 +104,10 @@ front-within [] l h = omega arith
 front-within (k ∷ ks) [] h = absurd (let z : _≡_ {A = ℕ} 0 1 = cc in omega arith)
 front-within (k ∷ ks) (b ∷ bs) h = let q : length ks ≤ length bs = front-within ks bs (both-right (eqb k b) (isFrontOf ks bs) h) in omega arith
 
-pub yes-within : (p : ℕ) (row : Row) (l : List ℕ) (r : Answer) → seen row ≡ told (rowAt p) → r ≡ answer Begins (keyText (row .key)) l → (n : ℕ) → r ≡ Yes n → n ≤ length l
+pub yes-within : (p : ℕ) (row : Row) (l : List ℕ) (r : Answer) → seen row ≡ told (rowAt p) → r ≡ answer (keyText (row .key)) l → (n : ℕ) → r ≡ Yes n → n ≤ length l
 yes-within p row l r e f n y =
-    let q : n ≡ length (keyAt p) = yes-length Begins p row l r e f n y in
-    omega (arith, front-within (keyAt p) l (yes-fits Begins p row l r e f n y))
+    let q : n ≡ length (keyAt p) = yes-length p row l r e f n y in
+    omega (arith, front-within (keyAt p) l (yes-fits p row l r e f n y))
 
 -- ---- the block that begins with the first of some places
 
@@ -116,14 +116,9 @@ module _ (n : ℕ) (l : List ℕ) where
   unfolding placesUpTo beginsBlock
   block-none z = rw (eq-eqb (n % 256) 0 z)
 
-  module _ (row : Row) (r : Answer) (z : (n % 256 ≡ 0 → ⊥)) (e : seen row ≡ told (rowAt (n % 256))) (f : r ≡ answer Alongside (keyText (row .key)) l) where
-    pub block-yes : (m : ℕ) → r ≡ Yes m → true ≡ beginsBlock (placesUpTo 8 n) l
-    unfolding placesUpTo beginsBlock
-    block-yes m y = rw (ne-eqb (n % 256) 0 z, yes-fits Alongside (n % 256) row l r e f m y)
-
-    pub block-no : r ≡ No → false ≡ beginsBlock (placesUpTo 8 n) l
-    unfolding placesUpTo beginsBlock
-    block-no y = rw (ne-eqb (n % 256) 0 z, no-fits Alongside (n % 256) row l r e f y)
+  pub block-some : (row : Row) (r : Bool) → (n % 256 ≡ 0 → ⊥) → seen row ≡ told (rowAt (n % 256)) → r ≡ alongside (keyText (row .key)) l → r ≡ beginsBlock (placesUpTo 8 n) l
+  unfolding placesUpTo beginsBlock
+  block-some row r z e f = rw (ne-eqb (n % 256) 0 z, ← key-of (n % 256) row e) f
 
 -- ---- the look for a line's place: what is left of the places finds what all of them find
 
@@ -146,15 +141,15 @@ module _ (n : ℕ) (l : List ℕ) (P : ℕ) where
   pub none-short : n % 256 ≡ 0 → 0 ≡ length (keyAt (n % 256))
   none-short z = rw z nowhere-short
 
-  module _ (row : Row) (r : Answer) (z : (n % 256 ≡ 0 → ⊥)) (e : seen row ≡ told (rowAt (n % 256))) (f : r ≡ answer Begins (keyText (row .key)) l) where
+  module _ (row : Row) (r : Answer) (z : (n % 256 ≡ 0 → ⊥)) (e : seen row ≡ told (rowAt (n % 256))) (f : r ≡ answer (keyText (row .key)) l) where
     pub place-found : (k m : ℕ) → 0 < k → placeOf (placesUpTo k n) l ≡ P → r ≡ Yes m → n % 256 ≡ P
     unfolding placesUpTo placeOf
     place-found zero m h inv y = absurd (not-suc-le-zero h)
-    place-found (suc k) m h inv y = rw (← inv, ne-eqb (n % 256) 0 z, yes-fits Begins (n % 256) row l r e f m y)
+    place-found (suc k) m h inv y = rw (← inv, ne-eqb (n % 256) 0 z, yes-fits (n % 256) row l r e f m y)
 
     pub place-again : (k : ℕ) → 0 < k → placeOf (placesUpTo k n) l ≡ P → r ≡ No → placeOf (placesUpTo (k - 1) (n / 256)) l ≡ P
     unfolding placesUpTo placeOf
     place-again zero h inv y = absurd (not-suc-le-zero h)
     place-again (suc k) h inv y =
         let q : suc k - 1 ≡ k = omega arith in
-        rw (← inv, ne-eqb (n % 256) 0 z, no-fits Begins (n % 256) row l r e f y, q)
+        rw (← inv, ne-eqb (n % 256) 0 z, no-fits (n % 256) row l r e f y, q)

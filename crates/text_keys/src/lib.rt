@@ -6,21 +6,113 @@ use crate::rows::NOWHERE;
 ghost use mathlib.Core.Path.{_≡_};
 ghost use Prim.Native.Nat.{_≤_};
 ghost use lib.ListN.{length};
+ghost use Rattle.paper.specs.Text.{column};
 ghost use Rattle.paper.specs.Listing.{keyAt, dashed, alongside, beginsBlock};
 ghost use Rattle.paper.specs.Page.{placeOf};
 ghost use Rattle.text_keys.specs.Rows.{keyText, placesIn};
-ghost use Rattle.text_keys.specs.Asked.{fits, answer};
+ghost use Rattle.text_keys.specs.Asked.{answer};
 
-// What a line is asked about a key.
-enum Ask {
-    Begins,
-    Alongside,
-}
+// The columns that keys stand at.
+const TOP: usize = 0;
 
-// The answer; yes with how long the key is.
+const IN_ITEM: usize = 2;
+
+const IN_PRINCIPAL: usize = 4;
+
+const IN_CONTEXT: usize = 6;
+
+// Whether a line begins with a key; yes with how long the key is.
 enum Answer {
     No,
     Yes(usize),
+}
+
+fn asked(key: &[u8], l: &[u8]) -> Answer
+    ensures { λ r. ⌜ r ≡ answer (now (key .entry)) (now (l .entry)) ⌝ }
+{
+    if text_bytes::is_front_of(key, l) {
+        return Answer::Yes(key.len());
+    }
+    Answer::No
+}
+
+// The braces have each text made in its own arm; all would be made at every call without them.
+fn key_asked(key: Key, l: &[u8]) -> Answer
+    ensures { λ r. ⌜ r ≡ answer (keyText key) (now (l .entry)) ⌝ }
+{
+    match key {
+        Key::Nothing => asked(&{ *b"" }, l),
+        Key::ObjectMap => asked(&{ *b"object_map:" }, l),
+        Key::Name => asked(&{ *b"- name:" }, l),
+        Key::Objects => asked(&{ *b"  objects:" }, l),
+        Key::SubjectMap => asked(&{ *b"subject_map:" }, l),
+        Key::Subjects => asked(&{ *b"  subjects:" }, l),
+        Key::Privileges => asked(&{ *b"privileges:" }, l),
+        Key::Principal => asked(&{ *b"- principal:" }, l),
+        Key::Subject => asked(&{ *b"    subject:" }, l),
+        Key::ExecutionContext => asked(&{ *b"    execution_context:" }, l),
+        Key::CallContext => asked(&{ *b"      call_context:" }, l),
+        Key::Uid => asked(&{ *b"      uid:" }, l),
+        Key::Gid => asked(&{ *b"      gid:" }, l),
+        Key::CanCall => asked(&{ *b"  can_call:" }, l),
+        Key::CanReturn => asked(&{ *b"  can_return:" }, l),
+        Key::CanRead => asked(&{ *b"  can_read:" }, l),
+        Key::ItemObjects => asked(&{ *b"  - objects:" }, l),
+        Key::ObjectContext => asked(&{ *b"    object_context:" }, l),
+        Key::CanWrite => asked(&{ *b"  can_write:" }, l),
+    }
+}
+
+fn key_column(key: Key) -> usize
+    ensures { λ r. ⌜ r ≡ column (keyText key) ⌝ }
+{
+    match key {
+        Key::Nothing => TOP,
+        Key::ObjectMap => TOP,
+        Key::Name => TOP,
+        Key::Objects => IN_ITEM,
+        Key::SubjectMap => TOP,
+        Key::Subjects => IN_ITEM,
+        Key::Privileges => TOP,
+        Key::Principal => TOP,
+        Key::Subject => IN_PRINCIPAL,
+        Key::ExecutionContext => IN_PRINCIPAL,
+        Key::CallContext => IN_CONTEXT,
+        Key::Uid => IN_CONTEXT,
+        Key::Gid => IN_CONTEXT,
+        Key::CanCall => IN_ITEM,
+        Key::CanReturn => IN_ITEM,
+        Key::CanRead => IN_ITEM,
+        Key::ItemObjects => IN_ITEM,
+        Key::ObjectContext => IN_PRINCIPAL,
+        Key::CanWrite => IN_ITEM,
+    }
+}
+
+fn key_dashed(key: Key) -> bool
+    ensures { λ r. ⌜ r ≡ dashed (keyText key) ⌝ }
+{
+    match key {
+        Key::Nothing => false,
+        Key::ObjectMap => false,
+        Key::Name => true,
+        Key::Objects => false,
+        Key::SubjectMap => false,
+        Key::Subjects => false,
+        Key::Privileges => false,
+        Key::Principal => true,
+        Key::Subject => false,
+        Key::ExecutionContext => false,
+        Key::CallContext => false,
+        Key::Uid => false,
+        Key::Gid => false,
+        Key::CanCall => false,
+        Key::CanReturn => false,
+        Key::CanRead => false,
+        Key::ItemObjects => true,
+        Key::ObjectContext => false,
+        Key::CanWrite => false,
+    }
 }
 
 fn dashed(l: &[u8]) -> bool
@@ -31,60 +123,16 @@ fn dashed(l: &[u8]) -> bool
 }
 
 // The line stands as the key does.
-fn alongside(key: &[u8], l: &[u8]) -> bool
-    ensures { λ r. ⌜ r ≡ alongside (now (key .entry)) (now (l .entry)) ⌝ }
+fn alongside(key: Key, l: &[u8]) -> bool
+    ensures { λ r. ⌜ r ≡ alongside (keyText key) (now (l .entry)) ⌝ }
 {
-    if text_lines::column(l) != text_lines::column(key) {
+    if text_lines::column(l) != key_column(key) {
         return false;
     }
-    if dashed(key) {
+    if key_dashed(key) {
         return dashed(l);
     }
     true
-}
-
-fn fits(ask: Ask, key: &[u8], l: &[u8]) -> bool
-    ensures { λ r. ⌜ r ≡ fits ask (now (key .entry)) (now (l .entry)) ⌝ }
-{
-    match ask {
-        Ask::Begins => text_bytes::is_front_of(key, l),
-        Ask::Alongside => alongside(key, l),
-    }
-}
-
-fn asked(ask: Ask, key: &[u8], l: &[u8]) -> Answer
-    ensures { λ r. ⌜ r ≡ answer ask (now (key .entry)) (now (l .entry)) ⌝ }
-{
-    if fits(ask, key, l) {
-        return Answer::Yes(key.len());
-    }
-    Answer::No
-}
-
-fn key_asked(ask: Ask, key: Key, l: &[u8]) -> Answer
-    ensures { λ r. ⌜ r ≡ answer ask (keyText key) (now (l .entry)) ⌝ }
-{
-    match key {
-        Key::Nothing => asked(ask, b"", l),
-        Key::ObjectMap => asked(ask, b"object_map:", l),
-        Key::Name => asked(ask, b"- name:", l),
-        Key::Objects => asked(ask, b"  objects:", l),
-        Key::SubjectMap => asked(ask, b"subject_map:", l),
-        Key::Subjects => asked(ask, b"  subjects:", l),
-        Key::Privileges => asked(ask, b"privileges:", l),
-        Key::Principal => asked(ask, b"- principal:", l),
-        Key::Subject => asked(ask, b"    subject:", l),
-        Key::ExecutionContext => asked(ask, b"    execution_context:", l),
-        Key::CallContext => asked(ask, b"      call_context:", l),
-        Key::Uid => asked(ask, b"      uid:", l),
-        Key::Gid => asked(ask, b"      gid:", l),
-        Key::CanCall => asked(ask, b"  can_call:", l),
-        Key::CanReturn => asked(ask, b"  can_return:", l),
-        Key::CanRead => asked(ask, b"  can_read:", l),
-        Key::ItemObjects => asked(ask, b"  - objects:", l),
-        Key::ObjectContext => asked(ask, b"    object_context:", l),
-        Key::CanWrite => asked(ask, b"  can_write:", l),
-    }
 }
 
 // A place, and how long its key is.
@@ -105,7 +153,7 @@ pub fn place_of(places: usize, l: &[u8]) -> Placed
             return Placed { place, length: 0 };
         }
         let key = rows::row_at(place).key;
-        if let Answer::Yes(length) = key_asked(Ask::Begins, key, l) {
+        if let Answer::Yes(length) = key_asked(key, l) {
             return Placed { place, length };
         }
         left = left / 256;
@@ -126,8 +174,5 @@ pub fn begins_block(places: usize, l: &[u8]) -> bool
         return false;
     }
     let key = rows::row_at(place).key;
-    if let Answer::Yes(_) = key_asked(Ask::Alongside, key, l) {
-        return true;
-    }
-    false
+    alongside(key, l)
 }

@@ -33,9 +33,9 @@ pub const EXECUTION_CONTEXT: usize = 10;
 // A context's keys stand behind it.
 const CALL_CONTEXT: usize = 1;
 
-const UID: usize = 2;
+pub const UID: usize = 2;
 
-const GID: usize = 3;
+pub const GID: usize = 3;
 
 const CONTEXT_PLACES: usize = 4;
 

@@ -8,14 +8,41 @@ use native.Mathlib.Omega.{arith}
 use lib.Dec.{eqb}
 use lib.ListN.{length, getD, take, drop, length-drop, drop-of-length-le}
 use lib.Seq.{drop-length}
-use borrow.Author.Tests.{eq-eqb, ne-eqb, not-true, not-false}
+use borrow.Author.Tests.{eqb-false, eq-eqb, ne-eqb, not-true, not-false}
 use Rattle.paper.specs.Common.{within, allOf}
 use Rattle.paper.specs.Text.{Line, linesFrom, withByte, onLine, column, skipped, mayStand, badByteLine}
 use Rattle.laws.specs.Pieces.{before}
 use Rattle.laws.proofs.Pieces.{piece-length, piece-within, piece-short, piece-behind, piece-last}
 use Rattle.laws.proofs.Places.{drop-more}
 use Rattle.laws.proofs.Tests.{both-left, both-right}
-use Rattle.text_lines.specs.Splits.{Splits}
+use Rattle.laws.proofs.Bytes.{find-again, find-here}
+use Rattle.laws.proofs.Chains.{tested-true}
+use Rattle.text_bytes.proofs.Laws.{right-done}
+use Rattle.text_lines.specs.Splits.{Splits, goesOn, fourGoOn}
+
+-- ---- the way to the end of a line
+
+module _ (t : List ℕ) (at : ℕ) where
+  module _ (i : ℕ) (inv : i + before 10 (drop i t) ≡ at + before 10 (drop at t)) where
+    goes-on : i < length t → goesOn t i ≡ true → i + 1 + before 10 (drop (i + 1) t) ≡ at + before 10 (drop at t)
+    goes-on h e = find-again 10 t at i inv h (eqb-false (getD t i 0) 10 (not-true (eqb (getD t i 0) 10) e))
+
+  pub four-again : (i : ℕ) → i + before 10 (drop i t) ≡ at + before 10 (drop at t) → i + 4 ≤ length t → (r : Bool) → r ≡ fourGoOn t i → not r ≡ false
+      → i + 4 + before 10 (drop (i + 4) t) ≡ at + before 10 (drop at t)
+  four-again i inv h r e u =
+      let four : fourGoOn t i ≡ true = tested-true (fourGoOn t i) r e u in
+      let three : (goesOn t i && goesOn t (i + 1) && goesOn t (i + 2)) ≡ true = both-left (goesOn t i && goesOn t (i + 1) && goesOn t (i + 2)) (goesOn t (i + 3)) four in
+      let two : (goesOn t i && goesOn t (i + 1)) ≡ true = both-left (goesOn t i && goesOn t (i + 1)) (goesOn t (i + 2)) three in
+      let p : i + 1 + 1 ≡ i + 2 = omega arith in
+      let q : i + 2 + 1 ≡ i + 3 = omega arith in
+      let z : i + 3 + 1 ≡ i + 4 = omega arith in
+      let a : i + 1 + before 10 (drop (i + 1) t) ≡ at + before 10 (drop at t) = goes-on i inv (omega arith) (both-left (goesOn t i) (goesOn t (i + 1)) two) in
+      let b : i + 2 + before 10 (drop (i + 2) t) ≡ at + before 10 (drop at t) = rw p at (goes-on (i + 1) a (omega arith) (both-right (goesOn t i) (goesOn t (i + 1)) two)) in
+      let c : i + 3 + before 10 (drop (i + 3) t) ≡ at + before 10 (drop at t) = rw q at (goes-on (i + 2) b (omega arith) (both-right (goesOn t i && goesOn t (i + 1)) (goesOn t (i + 2)) three)) in
+      rw z at (goes-on (i + 3) c (omega arith) (both-right (goesOn t i && goesOn t (i + 1) && goesOn t (i + 2)) (goesOn t (i + 3)) four))
+
+  pub ends-here : at < length t → getD t at 0 ≡ 10 → at ≡ at + before 10 (drop at t)
+  ends-here h e = find-here 10 t at at refl h e
 
 -- ---- the first line, and what is left
 
@@ -67,6 +94,7 @@ module _ (t : List ℕ) (at e : ℕ) (f : e ≡ at + before 10 (drop at t)) (w :
     inside = omega arith;
     further = omega arith;
     stays = omega arith;
+    fed = λ q. omega arith;
   }
 
   pub splits-open : length t ≤ e → Splits t at (record { end = e; next = length t; ended = false })
@@ -79,6 +107,7 @@ module _ (t : List ℕ) (at e : ℕ) (f : e ≡ at + before 10 (drop at t)) (w :
     inside = piece-within 10 t at e f (omega arith);
     further = w;
     stays = omega arith;
+    fed = λ q. absurd (let z : _≡_ {A = ℕ} 0 1 = cc in omega arith);
   }
 
 -- ---- the column
@@ -131,25 +160,10 @@ pub stands-is : (b : ℕ) (w : Bool) → w ≡ within 0x20 0x7E b → (eqb b 10 
 unfolding mayStand
 stands-is b w e = rw e
 
--- every byte may stand, as far as was looked and from there on
-module _ (t : List ℕ) (i : ℕ) (right : Bool) (inv : (right && allOf mayStand (drop i t)) ≡ allOf mayStand t) where
-  pub stands-again : (r : Bool) → i < length t → r ≡ mayStand (getD t i 0) → (right && r && allOf mayStand (drop (i + 1) t)) ≡ allOf mayStand t
-  unfolding allOf
-  stands-again r h e = rw (← inv, drop-more t i h, e) (go right (mayStand (getD t i 0)) (allOf mayStand (drop (i + 1) t)))
-    where
-      go : (a b c : Bool) → (a && b && c) ≡ (a && (b && c))
-      go true b c = refl
-      go false b c = refl
+pub stands-told : (t : List ℕ) (i : ℕ) (right : Bool) → (right && allOf mayStand (drop i t)) ≡ allOf mayStand t → length t ≤ i → not right ≡ not (allOf mayStand t)
+stands-told t i right inv h = ap not (right-done mayStand t i right inv h)
 
-  pub stands-done : length t ≤ i → not right ≡ not (allOf mayStand t)
-  unfolding allOf
-  stands-done h = rw (← inv, drop-of-length-le t h) (go right)
-    where
-      go : (a : Bool) → not a ≡ not (a && true)
-      go true = refl
-      go false = refl
-
--- then no line is that of a bad byte
+-- where every byte may stand, no line is that of a bad byte
 none-bad : (n : ℕ) (t : List ℕ) → allOf mayStand t ≡ true → badByteLine n t ≡ 0
 unfolding allOf badByteLine
 none-bad n [] h = refl

@@ -1,9 +1,11 @@
 -- What it is to split off one line: whoever reads lines stands on this and on nothing else.
 use mathlib.Core.Path.{_≡_}
+use mathlib.Core.Bool.{Bool, true, not, _&&_}
 use mathlib.Core.List.{List, _∷_}
-use Prim.Native.Nat.{ℕ, _-_, _<_, _≤_}
-use lib.ListN.{length, take, drop}
-use Rattle.paper.specs.Text.{linesFrom}
+use Prim.Native.Nat.{ℕ, _+_, _-_, _<_, _≤_}
+use lib.Dec.{eqb}
+use lib.ListN.{length, getD, take, drop}
+use Rattle.paper.specs.Text.{lineFeed, linesFrom}
 use Rattle.text_lines.specs.declared.LineAt.{LineAt}
 
 -- the lines from `at` on are the line from `at` to its end, and the lines from the next on
@@ -15,3 +17,13 @@ pub record Splits (t : List ℕ) (at : ℕ) (l : LineAt) : Type 0 where
   pub inside : l .end ≤ length t
   pub further : at < l .next
   pub stays : l .next ≤ length t
+  -- LF stands between the two
+  pub fed : l .ended ≡ true → l .end < l .next
+
+-- a line goes on behind this place: the byte there does not end it
+abbrev pub goesOn : List ℕ → ℕ → Bool
+goesOn t i = not (eqb (getD t i 0) lineFeed)
+
+-- and behind the three after it
+abbrev pub fourGoOn : List ℕ → ℕ → Bool
+fourGoOn t i = goesOn t i && goesOn t (i + 1) && goesOn t (i + 2) && goesOn t (i + 3)

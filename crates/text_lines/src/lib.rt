@@ -5,10 +5,11 @@ ghost use mathlib.Core.Path.{_≡_};
 ghost use mathlib.Core.Bool.{cond, not};
 ghost use Prim.Native.Nat.{_+_, _^_, _<_, _≤_};
 ghost use lib.Dec.{eqb};
-ghost use lib.ListN.{length};
+ghost use lib.ListN.{length, drop};
 ghost use Rattle.paper.specs.Common.{allOf};
 ghost use Rattle.paper.specs.Text.{lineFeed, mayStand, badByteLine, column, skipped};
-ghost use Rattle.text_lines.specs.Splits.{Splits};
+ghost use Rattle.laws.specs.Pieces.{before};
+ghost use Rattle.text_lines.specs.Splits.{Splits, fourGoOn};
 
 // A line that begins at some place of a text: its bytes end at `end`, the next line begins at `next`.
 pub struct LineAt {
@@ -17,11 +18,47 @@ pub struct LineAt {
     pub ended: bool,
 }
 
+// None of the four bytes from a place on ends the line.
+fn four_go_on(text: &[u8], i: usize) -> bool
+    requires { ⌜ i + 4 ≤ length (now text) ⌝ }
+    ensures { λ r. ⌜ r ≡ fourGoOn (now (text .entry)) i ⌝ }
+{
+    (text[i] != byte::LINE_FEED)
+        & (text[i + 1] != byte::LINE_FEED)
+        & (text[i + 2] != byte::LINE_FEED)
+        & (text[i + 3] != byte::LINE_FEED)
+}
+
+// A place on the line, less than four bytes before its end: the way there goes by four bytes at a time.
+fn near_end(text: &[u8], at: usize) -> usize
+    requires { ⌜ at < length (now text) ⌝ }
+    ensures { λ r. ⌜ r + before lineFeed (drop r (now (text .entry))) ≡ at + before lineFeed (drop at (now (text .entry))) ⌝ }
+{
+    let mut i = at;
+    while i + 4 <= text.len() {
+        if !four_go_on(text, i) {
+            return i;
+        }
+        i += 4;
+    }
+    i
+}
+
+fn line_end(text: &[u8], at: usize) -> usize
+    requires { ⌜ at < length (now text) ⌝ }
+    ensures { λ r. ⌜ r ≡ at + before lineFeed (drop at (now (text .entry))) ⌝ }
+{
+    if text[at] == byte::LINE_FEED {
+        return at;
+    }
+    text_bytes::find(text, near_end(text, at), byte::LINE_FEED)
+}
+
 pub fn line_at(text: &[u8], at: usize) -> LineAt
     requires { ⌜ at < length (now text) ⌝ }
     ensures { λ r. ⌜ Splits (now (text .entry)) at r ⌝ }
 {
-    let end = text_bytes::find(text, at, byte::LINE_FEED);
+    let end = line_end(text, at);
     if end < text.len() {
         return LineAt {
             end,

@@ -1,7 +1,7 @@
 -- Lists and values: what the code computes is the paper's test, or its fault.
-use mathlib.Core.Path.{_≡_, sym, _∙_}
-use mathlib.Core.Bool.{Bool, true, false, cond, not, _&&_, _||_, Bool·beq, or-false}
-use mathlib.Core.List.{List}
+use mathlib.Core.Path.{_≡_, refl, sym, ap, _∙_}
+use mathlib.Core.Bool.{Bool, true, false, cond, not, _&&_, _||_, Bool·beq, and-assoc, or-false}
+use mathlib.Core.List.{List, [], _∷_}
 use Prim.Native.Nat.{ℕ, _+_, _-_, _<_, _≤_}
 use native.Mathlib.Omega.{arith}
 use lib.Dec.{eqb, leb}
@@ -12,17 +12,20 @@ use Rattle.paper.specs.Text.{comma, space, openBracket, closeBracket}
 use Rattle.paper.specs.declared.Scalar.{Scalar}
 use Rattle.paper.specs.declared.Value.{Value}
 use Rattle.paper.specs.declared.Value.the-variants.{AllNoneOrItems}
-use Rattle.paper.specs.Scalars.{isScalar}
 use Rattle.paper.specs.Lists.{bracketed, spaced, elementsIn, elements, listFault}
 use Rattle.paper.specs.Listing.{bareIsNone, valueFault}
 use Rattle.laws.proofs.Tests.{both-left}
 use Rattle.laws.proofs.Chains.{tested-false, tested-true}
 use Rattle.laws.proofs.Places.{drop-more}
+use Rattle.text_bytes.specs.declared.Class.{Class}
+use Rattle.text_bytes.specs.Classes.{isOfList}
+use Rattle.text_scalars.specs.Classed.{classOf, fits}
 use Rattle.text_lists.specs.Walk.{firstElement, elementAt, elementsLeft, SpacedFrom}
 use Rattle.text_lists.specs.Faults.{insideFault}
 use Rattle.text_lists.specs.declared.Element.{Element}
 use Rattle.text_lists.specs.declared.Element.the-variants.{Found, NoneLeft}
-use Rattle.text_lists.proofs.Walk.{left-first, spaced-first, left-none, left-found}
+use Rattle.text_lists.proofs.Walk.{left-first, left-none, left-found}
+use Rattle.text_lists.proofs.Elements.{lists-split}
 
 -- ---- brackets
 
@@ -48,48 +51,72 @@ module _ (v : List ℕ) where
 
 -- ---- spaces
 
-module _ (s : List ℕ) (last i : ℕ) (inv : spaced last (drop i s) ≡ spaced 0 s) where
-  module _ (r : Bool) (h : i < length s) (e : r ≡ Bool·beq (eqb last comma) (eqb (getD s i 0) space)) where
-    pub spaced-fails : not r ≡ true → false ≡ spaced 0 s
-    unfolding spaced
-    spaced-fails t = rw (← inv, drop-more s i h, tested-false _ r e t)
+pub spaced-none : (s : List ℕ) → length s ≡ 0 → true ≡ spaced 0 s
+unfolding spaced
+spaced-none [] h = refl
+spaced-none (b ∷ bs) h = absurd (omega arith)
 
-    pub spaced-again : not r ≡ false → spaced (getD s i 0) (drop (i + 1) s) ≡ spaced 0 s
-    unfolding spaced
-    spaced-again t = rw (← inv, drop-more s i h, tested-true _ r e t)
+-- behind the first byte, which is no space
+pub spaced-starts : (s : List ℕ) → (length s ≡ 0 → ⊥) → (not (eqb (getD s 0 0) space) && spaced (getD s (1 - 1) 0) (drop 1 s)) ≡ spaced 0 s
+unfolding spaced
+spaced-starts [] h = absurd (h refl)
+spaced-starts (b ∷ bs) h = go (eqb b space)
+  where
+    go : (t : Bool) → (not t && spaced b bs) ≡ (Bool·beq false t && spaced b bs)
+    go true = refl
+    go false = refl
 
-  pub spaced-ends : length s ≤ i → not (eqb last comma) ≡ spaced 0 s
+-- the bytes before i are spaced, and those from it on behind the one before it, exactly where all of s is
+module _ (s : List ℕ) (i : ℕ) (right : Bool) (inv : (right && spaced (getD s (i - 1) 0) (drop i s)) ≡ spaced 0 s) where
+  pub spaced-again : (r : Bool) → i < length s → r ≡ Bool·beq (eqb (getD s (i - 1) 0) comma) (eqb (getD s i 0) space) → (right && r && spaced (getD s (i + 1 - 1) 0) (drop (i + 1) s)) ≡ spaced 0 s
   unfolding spaced
-  spaced-ends h = rw (← inv, drop-of-length-le s h)
+  spaced-again r h e =
+      let q : i + 1 - 1 ≡ i = omega arith in
+      rw (← inv, drop-more s i h, e, q) (and-assoc right _ _)
 
--- ---- every element is of a scalar
+  pub spaced-told : length s ≤ i → (right && not (eqb (getD s (i - 1) 0) comma)) ≡ spaced 0 s
+  unfolding spaced
+  spaced-told h = rw (← inv, drop-of-length-le s h)
+
+-- ---- every element is as a scalar asks
 
 module _ (k : Scalar) (s : List ℕ) (at : ℕ) where
-  module _ (h : at ≡ firstElement s) where
-    pub are-first : allOf (isScalar k) (elementsLeft s at) ≡ allOf (isScalar k) (elementsIn s)
-    are-first = rw (h, left-first s)
+  pub are-first : at ≡ firstElement s → allOf (fits k) (elementsLeft s at) ≡ allOf (fits k) (elementsIn s)
+  are-first h = rw (h, left-first s)
 
-    pub spaced-at-first : spaced 0 s ≡ true → SpacedFrom s at
-    spaced-at-first g = rw h (spaced-first s g)
-
-  module _ (r : Element) (q : r ≡ elementAt s at) (inv : allOf (isScalar k) (elementsLeft s at) ≡ allOf (isScalar k) (elementsIn s)) where
-    pub are-done : r ≡ NoneLeft → true ≡ allOf (isScalar k) (elementsIn s)
+  module _ (r : Element) (q : r ≡ elementAt s at) (inv : allOf (fits k) (elementsLeft s at) ≡ allOf (fits k) (elementsIn s)) where
+    pub are-done : r ≡ NoneLeft → true ≡ allOf (fits k) (elementsIn s)
     unfolding allOf
     are-done n = rw (← inv, left-none s at r q n)
 
-    module _ (end next : ℕ) (n : r ≡ Found end next) (w : SpacedFrom s at) (a : Bool) (e : a ≡ isScalar k (take (end - at) (drop at s))) where
-      pub are-fails : not a ≡ true → false ≡ allOf (isScalar k) (elementsIn s)
+    module _ (end next : ℕ) (n : r ≡ Found end next) (w : SpacedFrom s at) (a : Bool) (e : a ≡ fits k (take (end - at) (drop at s))) where
+      pub are-fails : not a ≡ true → false ≡ allOf (fits k) (elementsIn s)
       unfolding allOf
       are-fails t = rw (← inv, left-found s at r q end next n w, tested-false _ a e t)
 
-      pub are-again : not a ≡ false → allOf (isScalar k) (elementsLeft s next) ≡ allOf (isScalar k) (elementsIn s)
+      pub are-again : not a ≡ false → allOf (fits k) (elementsLeft s next) ≡ allOf (fits k) (elementsIn s)
       unfolding allOf
       are-again t = rw (← inv, left-found s at r q end next n w, tested-true _ a e t)
 
 -- ---- the fault of a list
 
-pub told-spaced : (s : List ℕ) (told : Bool) → told ≡ spaced 0 s → told ≡ true → spaced 0 s ≡ true
-told-spaced s told e t = sym e ∙ t
+module _ (k : Scalar) (s : List ℕ) (told : Bool) (e : told ≡ spaced 0 s) where
+  pub not-spaced : not told ≡ true → 4 ≡ insideFault k s
+  not-spaced t = rw (tested-false _ told e t)
+
+  module _ (t : not told ≡ false) where
+    pub told-spaced : spaced 0 s ≡ true
+    told-spaced = tested-true _ told e t
+
+    module _ (class : Class) (c : class ≡ classOf k) (every : Bool) (f : every ≡ allOf (isOfList class) s) where
+      every-is : every ≡ allOf (isOfList (classOf k)) s
+      every-is = f ∙ ap (λ (x : Class). allOf (isOfList x) s) c
+
+      pub other-byte : not every ≡ true → 5 ≡ insideFault k s
+      other-byte u = rw (told-spaced, lists-split k s, tested-false _ every every-is u)
+
+      pub fits-told : not every ≡ false → (fit : Bool) (m : ℕ) → fit ≡ allOf (fits k) (elementsIn s) → m ≡ cond fit 0 5 → m ≡ insideFault k s
+      fits-told u fit m g h = rw (told-spaced, lists-split k s, tested-true _ every every-is u, ← g) h
 
 module _ (k : Scalar) (v : List ℕ) (told : Bool) (e : told ≡ bracketed v) where
   pub list-is : (m : ℕ) → told ≡ true → m ≡ insideFault k (take (length v - 1 - 1) (drop 1 v)) → m ≡ listFault k v

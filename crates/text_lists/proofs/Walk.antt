@@ -144,6 +144,9 @@ module _ (s : List ℕ) where
       go true e = let q : length s ≤ 1 = omega (arith, eqb-true (length s) 0 e) in rw (drop-of-length-le s q)
       go false e = h
 
+  pub spaced-at-first : (at : ℕ) → at ≡ firstElement s → spaced 0 s ≡ true → SpacedFrom s at
+  spaced-at-first at h g = rw h (spaced-first g)
+
 -- ---- a step of the walk, as the code takes it
 
 module _ (s : List ℕ) (at : ℕ) where
@@ -175,7 +178,7 @@ module _ (s : List ℕ) (at : ℕ) (r : Element) (q : r ≡ elementAt s at) wher
       go false p h = absurd (let z : _≡_ {A = ℕ} 0 1 = cc in omega arith)
 
   module _ (end next : ℕ) (n : r ≡ Found end next) where
-    found-at : FoundAt s at end next
+    pub found-at : FoundAt s at end next
     unfolding elementAt
     found-at = go (ltb (length s) at) refl q
       where

@@ -8,9 +8,9 @@ ghost use mathlib.Core.Bool.{true, cond, Bool·beq};
 ghost use lib.Dec.{eqb};
 ghost use Rattle.paper.specs.Common.{allOf, is};
 ghost use Rattle.paper.specs.Text.{comma, space};
-ghost use Rattle.paper.specs.Scalars.{isScalar};
 ghost use Rattle.paper.specs.Lists.{bracketed, spaced, elementsIn, listFault};
 ghost use Rattle.paper.specs.Listing.{bareIsNone, noFault, valueFault};
+ghost use Rattle.text_scalars.specs.Classed.{fits};
 ghost use Rattle.text_lists.specs.Walk.{firstElement, elementAt};
 ghost use Rattle.text_lists.specs.Faults.{insideFault};
 
@@ -40,20 +40,20 @@ fn space_fits(last: u8, b: u8) -> bool
     (last == byte::COMMA) == (b == byte::SPACE)
 }
 
+// The loop has no exit, so that it takes many bytes at a time.
 fn spaced(s: &[u8]) -> bool
     ensures { λ r. ⌜ r ≡ spaced 0 (now (s .entry)) ⌝ }
 {
-    let mut last: u8 = 0;
-    let mut i: usize = 0;
+    if s.len() == 0 {
+        return true;
+    }
+    let mut right = s[0] != byte::SPACE;
+    let mut i: usize = 1;
     while i < s.len() {
-        let b = s[i];
-        if !space_fits(last, b) {
-            return false;
-        }
-        last = b;
+        right = right & space_fits(s[i - 1], s[i]);
         i += 1;
     }
-    last != byte::COMMA
+    right & (s[i - 1] != byte::COMMA)
 }
 
 // Where the walk over what stands between the brackets starts: past the end where nothing does.
@@ -77,17 +77,17 @@ pub fn element_at(s: &[u8], at: usize) -> Element
     Element::Found { end, next: end + 2 }
 }
 
-// Every element is of the scalar: the walk ends behind the last one.
-fn all_are(scalar: Scalar, s: &[u8]) -> bool
+// Every element is as the scalar asks, the class of its bytes aside: the walk ends behind the last one.
+fn all_fit(scalar: Scalar, s: &[u8]) -> bool
     requires { ⌜ spaced 0 (now s) ≡ true ⌝ }
-    ensures { λ r. ⌜ r ≡ allOf (isScalar scalar) (elementsIn (now (s .entry))) ⌝ }
+    ensures { λ r. ⌜ r ≡ allOf (fits scalar) (elementsIn (now (s .entry))) ⌝ }
 {
     let mut at = first_element(s);
     loop {
         match element_at(s, at) {
             Element::NoneLeft => return true,
             Element::Found { end, next } => {
-                if !text_scalars::is_scalar(scalar, &s[at..end]) {
+                if !text_scalars::fits(scalar, &s[at..end]) {
                     return false;
                 }
                 at = next;
@@ -105,13 +105,18 @@ fn fault_unless(right: bool, number: u16) -> u16
     number
 }
 
+// The bytes of all elements are looked at together: what is no comma and no space stands in one of them.
 fn inside_fault(scalar: Scalar, s: &[u8]) -> u16
     ensures { λ r. ⌜ r ≡ insideFault scalar (now (s .entry)) ⌝ }
 {
-    if spaced(s) {
-        return fault_unless(all_are(scalar, s), refusal::SCALAR);
+    if !spaced(s) {
+        return refusal::LAYOUT;
     }
-    refusal::LAYOUT
+    let class = text_scalars::class_of(scalar);
+    if !text_bytes::all_of_list(class, s) {
+        return refusal::SCALAR;
+    }
+    fault_unless(all_fit(scalar, s), refusal::SCALAR)
 }
 
 pub fn list_fault(scalar: Scalar, v: &[u8]) -> u16

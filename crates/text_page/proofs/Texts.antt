@@ -35,7 +35,7 @@ module _ (t : List ℕ) (c : Cursor) (e : c ≡ atStart) where
   pub starts-line : c .line ≤ c .at + 1
   starts-line = rw e (omega arith)
 
-page-bounded : (t : List ℕ) (k m : ℕ) → pageOf t ≡ fault k m → Bounded 1 (length (lines t)) k m
+pub page-bounded : (t : List ℕ) (k m : ℕ) → pageOf t ≡ fault k m → Bounded 1 (length (lines t)) k m
 unfolding pageOf beforeFirst
 page-bounded t k m e = bounded beforeFirst 1 (lines t) k m (omega arith) e
 
@@ -83,7 +83,7 @@ module _ (t : List ℕ) (c : Cursor) (r : next.Next) (e : pageLeft t c ≡ pageN
 
 -- ---- a text
 
-bad-within : (n : ℕ) (t : List ℕ) → badByteLine n t ≤ n + length t
+pub bad-within : (n : ℕ) (t : List ℕ) → badByteLine n t ≤ n + length t
 unfolding badByteLine
 bad-within n [] = omega arith
 bad-within n (b ∷ bs) = go (mayStand b) (eqb b 10) (λ m. bad-within m bs)

@@ -14,12 +14,14 @@ use Rattle.paper.specs.Listing.{rowAt}
 use Rattle.paper.specs.Page as paper
 use Rattle.paper.specs.Page.{Outcome, fields, fault, andFields, after, isLeftEmpty, lineStep, atEnd, pageFrom}
 use Rattle.laws.proofs.Places.{drop-take}
+use Rattle.laws_page.proofs.Right.{FieldOf, field-on}
+use Rattle.laws_page.proofs.Keys.{key-long}
 use Rattle.text_keys.specs.Rows.{seen, told}
 use Rattle.text_keys.specs.declared.rows.Row.{Row}
 use Rattle.text_lines.specs.Splits.{Splits}
 use Rattle.text_lines.specs.declared.LineAt.{LineAt}
 use Rattle.text_page.specs.Steps.{stateOf, stepOf, StartsIn}
-use Rattle.text_page.specs.Walk.{startOf, nextAfter, nextIn, lastNext, pageLeft, pageNext, Within}
+use Rattle.text_page.specs.Walk.{startOf, nextAfter, nextIn, lastNext, pageLeft, pageNext, fieldBytes, Within}
 use Rattle.text_page.proofs.Steps.{last-told}
 use Rattle.text_page.specs.declared.step.State.{State}
 use Rattle.text_page.specs.declared.step.Step as step
@@ -66,9 +68,6 @@ module _ (t : List ℕ) (at : ℕ) (l : LineAt) (sp : Splits t at l) where
 
   pub walk-on : (a : ℕ) → a ≤ at → a ≤ l .next
   walk-on a k = omega (arith, sp .further)
-
-  pub walk-further : (a : ℕ) → a ≤ at → a < l .next
-  walk-further a k = omega (arith, sp .further)
 
   pub walk-stays : l .next ≤ length t
   walk-stays = sp .stays
@@ -122,6 +121,17 @@ module _ (t : List ℕ) (at : ℕ) (l : LineAt) (sp : Splits t at l) where
           let k : l .end - at - a ≡ l .end - (at + a) = omega arith in
           let v : drop a (take (l .end - at) (drop at t)) ≡ take (l .end - (at + a)) (drop (at + a) t) = drop-take a (l .end - at) (drop at t) ∙ rw (k, drop-drop a at t) refl in
           page-is ∙ rw (q, v) refl
+
+      -- the key of a field and its LF take at least eight bytes
+      pub walk-further : (from p a : ℕ) (b : Bool) → StartsIn (take (l .end - at) (drop at t)) s → s ≡ steps.Field p b a → from ≤ at → from + fieldBytes ≤ l .next
+      walk-further from p a b i q k = go (field-on (stateOf st) _ n (record { start = at; text = take (l .end - at) (drop at t); ended = l .ended }) _ (e at ∙ rw q refl))
+        where
+          go : FieldOf (stateOf st) n (record { start = at; text = take (l .end - at) (drop at t); ended = l .ended })
+              (record { place = p; bare = b; line = n }) (record { line = n; place = p; start = at + a; value = drop a (take (l .end - at) (drop at t)) })
+              → from + fieldBytes ≤ l .next
+          go d =
+              let w : a ≤ length (take (l .end - at) (drop at t)) = rw q at i in
+              omega (arith, key-long (stateOf st) (take (l .end - at) (drop at t)) p (d .placed), d .keyed, d .starts, length-take (l .end - at) (drop at t), w, sp .after, sp .fed (d .ended))
 
   module _ (p a : ℕ) (b : Bool) (s : step.Step) (i : StartsIn (take (l .end - at) (drop at t)) s) (q : s ≡ steps.Field p b a) where
     start-in : a ≤ l .end - at

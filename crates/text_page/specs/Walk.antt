@@ -1,5 +1,5 @@
 -- The walk over a text's fields: what it answers at a cursor, and what that says of what is left of the page. Every pass over a text stands on this.
-use Prim.Native.Nat.{ℕ, _+_, _-_, _<_, _≤_}
+use Prim.Native.Nat.{ℕ, _+_, _-_, _≤_}
 use mathlib.Core.List.{List, [], _∷_}
 use mathlib.Core.Bool.{false}
 use lib.ListN.{length, take, drop}
@@ -52,9 +52,13 @@ pageNext t (Field line place start end after) =
 pageNext t End = fields []
 pageNext t (Fault number line) = fault number line
 
--- a field's value stands in the text, and the walk goes on behind it
+-- the shortest line with a field: `- name:` and its LF
+abbrev pub fieldBytes : ℕ
+fieldBytes = 8
+
+-- a field's value stands in the text, and the walk goes on behind its line, so that a text of n bytes has at most n / fieldBytes fields
 abbrev pub Within : List ℕ → ℕ → Next → Type 0
 Within t at (Field line place start end after) =
-    (start ≤ end) × (end ≤ length t) × (at < after .at) × (after .at ≤ length t) × (after .line ≤ after .at + 1)
+    (start ≤ end) × (end ≤ length t) × (at + fieldBytes ≤ after .at) × (after .at ≤ length t) × (after .line ≤ after .at + 1)
 Within t at End = Unit
 Within t at (Fault number line) = Unit

@@ -1,6 +1,6 @@
 -- Scalars: what the code computes of a stretch is the paper's test.
 use mathlib.Core.Path.{_≡_, refl, sym, ap, _∙_}
-use mathlib.Core.Bool.{Bool, true, false, not, _&&_, _||_, and-true, or-assoc, or-false}
+use mathlib.Core.Bool.{Bool, true, false, not, _&&_, _||_, and-true, and-comm, or-assoc, or-false}
 use mathlib.Core.List.{List, [], _∷_}
 use mathlib.Core.Logic.{dite}
 use Prim.Native.String.{String}
@@ -12,7 +12,7 @@ use lib.Dec.{eqb, leb}
 use lib.ListN.{length, getD, take, drop, length-drop}
 use lib.Seq.{length-take-le}
 use borrow.Author.Tests.{ne-eqb, lt-leb, le-leb}
-use Rattle.paper.specs.Common.{bytes, same, isOne, anyOf, allOf, cut}
+use Rattle.paper.specs.Common.{bytes, within, same, isOne, anyOf, allOf, cut}
 use Rattle.paper.specs.Text.{bar}
 use Rattle.paper.specs.Scalars.{isDigit, nameByte, identifierByte, identifierFirst, isName, isDomainName, isVariable, isUid, isGid}
 use Rattle.paper.specs.Scalars.{isLineNumber, meets, objectSorts, isOfSort, partsFit, isIdentifier, isScalar}
@@ -20,19 +20,21 @@ use Rattle.paper.specs.declared.Need.{Need}
 use Rattle.paper.specs.declared.Kind.{Kind}
 use Rattle.paper.specs.declared.Kind.the-variants.{Subject, Object}
 use Rattle.paper.specs.declared.Scalar.{Scalar}
-use Rattle.paper.specs.declared.Scalar.the-variants.{PatternElement}
+use Rattle.paper.specs.declared.Scalar.the-variants.{DomainName, PatternElement}
 use Rattle.laws.specs.Pieces.{before}
 use Rattle.laws.proofs.Tests.{same-equal, eqb-same}
 use Rattle.laws.proofs.Pieces.{piece-within, cut-more, cut-last, cut-some}
 use Rattle.text_scalars.specs.Sorts.{partsMeet, sortNamed, meetsSort}
 use Rattle.text_scalars.specs.declared.ObjectSort.{ObjectSort}
+use Rattle.text_scalars.specs.Classed.{fitsKind, fits}
+use Rattle.text_scalars.proofs.Classed.{identifier-splits}
 
 -- ---- names, users and groups
 
 module _ (s : List ℕ) where
-  pub name-is : (every : Bool) → every ≡ allOf nameByte s → (leb 1 (length s) && leb (length s) 64 && every) ≡ isName s
+  pub name-is : (right every : Bool) → right ≡ within 1 64 (length s) → every ≡ allOf nameByte s → (right && every) ≡ isName s
   unfolding isName
-  name-is every e = rw e
+  name-is right every e f = rw (e, f)
 
   module _ (name all root user : Bool) (e : all ≡ same (bytes "all") s) where
     pub domain-name-is : name ≡ isName s → (name && not all) ≡ isDomainName s
@@ -178,14 +180,17 @@ parts-known kind known parts r e f = rw e f
 -- ---- identifiers, over both kinds and every length
 
 module _ (kind : Kind) (s : List ℕ) where
-  pub no-identifier : length s < 1 → false ≡ isIdentifier kind s
-  unfolding isIdentifier
-  no-identifier h = rw (lt-leb 1 (length s) h)
+  pub fits-none : length s < 1 → false ≡ fitsKind kind s
+  unfolding fitsKind
+  fits-none h = rw (lt-leb 1 (length s) h)
 
-  pub identifier-is : (first every parts : Bool) → 1 ≤ length s → first ≡ identifierFirst (getD s 0 0) → every ≡ allOf identifierByte s → parts ≡ partsFit kind (cut bar s)
-      → (leb (length s) 128 && first && every && parts) ≡ isIdentifier kind s
-  unfolding isIdentifier
-  identifier-is first every parts h e f g = rw (le-leb 1 (length s) h, e, f, g)
+  pub fits-kind-is : (first parts : Bool) → 1 ≤ length s → first ≡ identifierFirst (getD s 0 0) → parts ≡ partsFit kind (cut bar s)
+      → (leb (length s) 128 && first && parts) ≡ fitsKind kind s
+  unfolding fitsKind
+  fits-kind-is first parts h e f = rw (le-leb 1 (length s) h, e, f)
+
+  pub identifier-is : (right every : Bool) → right ≡ fitsKind kind s → every ≡ allOf identifierByte s → (right && every) ≡ isIdentifier kind s
+  identifier-is right every e f = rw (e, f) (and-comm (fitsKind kind s) (allOf identifierByte s) ∙ sym (identifier-splits kind s))
 
 -- ---- scalars
 
@@ -200,3 +205,18 @@ module _ (s : List ℕ) (r : Bool) where
 
   pub scalar-known : (scalar known : Scalar) → scalar ≡ known → r ≡ isScalar known s → r ≡ isScalar scalar s
   scalar-known scalar known e f = rw e f
+
+  pub fits-known : (scalar known : Scalar) → scalar ≡ known → r ≡ fits known s → r ≡ fits scalar s
+  fits-known scalar known e f = rw e f
+
+  pub fits-domain-name-is : (all : Bool) → r ≡ within 1 64 (length s) → all ≡ same (bytes "all") s → (r && not all) ≡ fits DomainName s
+  unfolding fits
+  fits-domain-name-is all e f = rw (e, f)
+
+  pub fits-all : r ≡ same (bytes "all") s → r ≡ true → r ≡ fits PatternElement s
+  unfolding fits
+  fits-all e t = rw (← e, t)
+
+  pub fits-pattern : (all : Bool) → all ≡ same (bytes "all") s → all ≡ false → r ≡ fitsKind Subject s → r ≡ fits PatternElement s
+  unfolding fits
+  fits-pattern all e t f = rw (← e, t, f)

@@ -1,1 +1,2 @@
 pub mod Sorts
+pub mod Classed

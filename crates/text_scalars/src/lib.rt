@@ -6,12 +6,14 @@ use paper::limit;
 use text_bytes::Class;
 use text_bytes::byte;
 ghost use mathlib.Core.Path.{_≡_};
-ghost use Rattle.paper.specs.Common.{cut};
+ghost use lib.ListN.{length};
+ghost use Rattle.paper.specs.Common.{within, cut};
 ghost use Rattle.paper.specs.Text.{bar};
 ghost use Rattle.paper.specs.Scalars.{isName, isDomainName, isVariable, isUid, isGid, isLineNumber, meets, partsFit, isIdentifier, isScalar};
 ghost use Rattle.paper.specs.declared.Kind.the-variants.{Subject, Object};
-ghost use Rattle.paper.specs.declared.Scalar.the-variants.{PatternElement};
+ghost use Rattle.paper.specs.declared.Scalar.the-variants.{DomainName, PatternElement};
 ghost use Rattle.text_scalars.specs.Sorts.{sortNamed, partsMeet, meetsSort};
+ghost use Rattle.text_scalars.specs.Classed.{classOf, fitsKind, fits};
 
 // The sorts of object, by the first part of an identifier; `Unknown` where it names none.
 enum ObjectSort {
@@ -24,10 +26,16 @@ enum ObjectSort {
     Unknown,
 }
 
+fn has_name_length(s: &[u8]) -> bool
+    ensures { λ r. ⌜ r ≡ within 1 64 (length (now (s .entry))) ⌝ }
+{
+    (1 <= s.len()) & (s.len() <= limit::NAME_BYTES)
+}
+
 pub fn is_name(s: &[u8]) -> bool
     ensures { λ r. ⌜ r ≡ isName (now (s .entry)) ⌝ }
 {
-    (1 <= s.len()) & (s.len() <= limit::NAME_BYTES) & text_bytes::all_of(Class::NameByte, s)
+    has_name_length(s) & text_bytes::all_of(Class::NameByte, s)
 }
 
 pub fn is_domain_name(s: &[u8]) -> bool
@@ -175,16 +183,20 @@ fn parts_fit(kind: Kind, s: &[u8]) -> bool
     }
 }
 
-pub fn is_identifier(kind: Kind, s: &[u8]) -> bool
-    ensures { λ r. ⌜ r ≡ isIdentifier kind (now (s .entry)) ⌝ }
+// What is asked of an identifier besides the class of its bytes.
+fn fits_kind(kind: Kind, s: &[u8]) -> bool
+    ensures { λ r. ⌜ r ≡ fitsKind kind (now (s .entry)) ⌝ }
 {
     if s.len() < 1 {
         return false;
     }
-    (s.len() <= limit::IDENTIFIER_BYTES)
-        & text_bytes::identifier_first(s[0])
-        & text_bytes::all_of(Class::IdentifierByte, s)
-        & parts_fit(kind, s)
+    (s.len() <= limit::IDENTIFIER_BYTES) & text_bytes::identifier_first(s[0]) & parts_fit(kind, s)
+}
+
+pub fn is_identifier(kind: Kind, s: &[u8]) -> bool
+    ensures { λ r. ⌜ r ≡ isIdentifier kind (now (s .entry)) ⌝ }
+{
+    fits_kind(kind, s) & text_bytes::all_of(Class::IdentifierByte, s)
 }
 
 fn is_pattern_element(s: &[u8]) -> bool
@@ -203,5 +215,45 @@ pub fn is_scalar(scalar: Scalar, s: &[u8]) -> bool
         Scalar::SubjectIdentifier => is_identifier(Kind::Subject, s),
         Scalar::ObjectIdentifier => is_identifier(Kind::Object, s),
         Scalar::PatternElement => is_pattern_element(s),
+    }
+}
+
+// The class that a scalar's bytes are of.
+pub fn class_of(scalar: Scalar) -> Class
+    ensures { λ r. ⌜ r ≡ classOf scalar ⌝ }
+{
+    match scalar {
+        Scalar::DomainName => Class::NameByte,
+        Scalar::UidValue => Class::NameByte,
+        Scalar::GidValue => Class::NameByte,
+        Scalar::SubjectIdentifier => Class::IdentifierByte,
+        Scalar::ObjectIdentifier => Class::IdentifierByte,
+        Scalar::PatternElement => Class::IdentifierByte,
+    }
+}
+
+fn fits_domain_name(s: &[u8]) -> bool
+    ensures { λ r. ⌜ r ≡ fits DomainName (now (s .entry)) ⌝ }
+{
+    has_name_length(s) & !text_bytes::same(b"all", s)
+}
+
+fn fits_pattern_element(s: &[u8]) -> bool
+    ensures { λ r. ⌜ r ≡ fits PatternElement (now (s .entry)) ⌝ }
+{
+    text_bytes::same(b"all", s) || fits_kind(Kind::Subject, s)
+}
+
+// What is asked of a scalar besides the class of its bytes.
+pub fn fits(scalar: Scalar, s: &[u8]) -> bool
+    ensures { λ r. ⌜ r ≡ fits scalar (now (s .entry)) ⌝ }
+{
+    match scalar {
+        Scalar::DomainName => fits_domain_name(s),
+        Scalar::UidValue => is_uid(s),
+        Scalar::GidValue => is_gid(s),
+        Scalar::SubjectIdentifier => fits_kind(Kind::Subject, s),
+        Scalar::ObjectIdentifier => fits_kind(Kind::Object, s),
+        Scalar::PatternElement => fits_pattern_element(s),
     }
 }

@@ -17,6 +17,119 @@ pub fn draft(dice: &mut Dice, draft: &mut Draft) {
     }
 }
 
+/// One fault against a rule over the whole file, of this number: 6, 7, 8, 10
+/// or 11. What the fault needs may be missing; then nothing changes.
+pub fn rule(dice: &mut Dice, draft: &mut Draft, number: u16) {
+    match number {
+        6 => lengthen(dice, draft),
+        7 => match dice.below(4) {
+            0 => repeat_name(dice, draft),
+            1 => repeat_member(dice, draft),
+            _ => repeat_in_list(dice, draft),
+        },
+        8 => match dice.below(4) {
+            0 => unknown_subject(dice, draft),
+            1 => unknown_element(dice, draft),
+            _ => unknown_in_list(dice, draft),
+        },
+        10 => unbind(dice, draft),
+        _ => repeat_entry(dice, draft),
+    }
+}
+
+/// A pattern of more than sixteen elements.
+fn lengthen(dice: &mut Dice, draft: &mut Draft) {
+    let longer = dice.from_to(17, 20);
+    if let Some(elements) = any_pattern(dice, draft) {
+        elements.resize(longer, "all".to_string());
+    }
+}
+
+/// The elements of some context that has a pattern.
+fn any_pattern<'d>(dice: &mut Dice, draft: &'d mut Draft) -> Option<&'d mut Vec<String>> {
+    let elements = |context: &'d mut Context| match context {
+        Context::Keys { call_context, .. } => call_context.as_mut(),
+        _ => None,
+    };
+    let mut all: Vec<_> = contexts(draft).into_iter().filter_map(elements).collect();
+    match all.is_empty() {
+        true => None,
+        false => Some(all.swap_remove(dice.below(all.len()))),
+    }
+}
+
+/// Some list, and where a name goes in.
+fn any_list<'d>(dice: &mut Dice, draft: &'d mut Draft) -> Option<(&'d mut Vec<String>, usize)> {
+    let mut all = lists(draft);
+    if all.is_empty() {
+        return None;
+    }
+    let list = all.swap_remove(dice.below(all.len()));
+    let at = dice.below(list.len() + 1);
+    Some((list, at))
+}
+
+fn repeat_in_list(dice: &mut Dice, draft: &mut Draft) {
+    if let Some((list, at)) = any_list(dice, draft) {
+        // One that is in no map may stand twice as well.
+        let name = match list.is_empty() || dice.percent(20) {
+            true => "Nowhere".to_string(),
+            false => dice.pick(list).clone(),
+        };
+        if list.is_empty() {
+            list.push(name.clone());
+        }
+        list.insert(at, name);
+    }
+}
+
+fn unknown_in_list(dice: &mut Dice, draft: &mut Draft) {
+    let name = unknown(dice, draft);
+    if let Some((list, at)) = any_list(dice, draft) {
+        if !list.contains(&name) {
+            list.insert(at, name);
+        }
+    }
+}
+
+/// A name of no map, or of one of them, which may be the other.
+fn unknown(dice: &mut Dice, draft: &Draft) -> String {
+    let maps = draft.objects.iter().chain(&draft.subjects);
+    let mut names: Vec<&str> = maps.map(|domain| domain.name.as_str()).collect();
+    names.extend(["Nowhere", "MeteR", "Main.", "M", "root"]);
+    dice.pick(&names).to_string()
+}
+
+fn unknown_subject(dice: &mut Dice, draft: &mut Draft) {
+    let name = unknown(dice, draft);
+    let place = dice.below(draft.entries.len());
+    if let Some(entry) = draft.entries.get_mut(place) {
+        entry.subject = name;
+    }
+}
+
+fn unknown_element(dice: &mut Dice, draft: &mut Draft) {
+    let word = dice.word(&["m.c|nowhere", "m.c|mai", "m.c|main.", "b|m", "n.c|main"]);
+    if let Some(elements) = any_pattern(dice, draft) {
+        let at = dice.below(elements.len() + 1);
+        elements.insert(at, word.to_string());
+        elements.truncate(16);
+    }
+}
+
+/// Another variable in some context, the entry's own or an object's.
+fn unbind(dice: &mut Dice, draft: &mut Draft) {
+    let word = dice.word(&["U", "V", "W", "any", "0"]).to_string();
+    let mut all = contexts(draft);
+    let place = dice.below(all.len());
+    if let Some(Context::Keys { uid, gid, .. }) = all.get_mut(place) {
+        match dice.percent(50) {
+            true => *uid = Some(word),
+            false => *gid = Some(word),
+        }
+    }
+}
+
 fn repeat_name(dice: &mut Dice, draft: &mut Draft) {
     let names: Vec<String> = draft
         .objects

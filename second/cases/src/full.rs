@@ -63,27 +63,6 @@ pub fn clear_policy() -> Policy {
     }
 }
 
-/// A page in order that is as long as a text may be: one domain after another,
-/// each with a few members.
-pub fn long_page() -> Vec<u8> {
-    let mut text = b"object_map: []\nsubject_map:\n".to_vec();
-    let end = b"privileges: []\n";
-    let mut number = 0;
-    loop {
-        let domain =
-            format!("- name: Domain{number}\n  subjects: [src/f.c|f{number}, src/g.c|g{number}]\n");
-        if text.len() + domain.len() + end.len() > 65_536 {
-            break;
-        }
-        text.extend(domain.bytes());
-        number += 1;
-    }
-    text.extend(end);
-    text.resize(65_535, b' ');
-    text.push(b'\n');
-    text
-}
-
 fn entry(dice: &mut Dice) -> Entry {
     let context = Context {
         pattern: pattern(dice),

@@ -4,10 +4,16 @@ use crate::draft::{Access, Context, Domain, Draft, Entry, Grant, Item};
 use crate::write;
 
 /// How many limits there are.
-pub const LIMITS: usize = 15;
+pub const LIMITS: usize = DRAFT_LIMITS + 3;
 
 /// How many of them a draft can show; the others are about whole texts.
-pub const DRAFT_LIMITS: usize = 12;
+pub const DRAFT_LIMITS: usize = 20;
+
+/// Those about whole texts: its length, that of the filled one, and that of a
+/// text of blank lines.
+pub const LONG_TEXT: usize = DRAFT_LIMITS;
+pub const LONG_FILLED: usize = DRAFT_LIMITS + 1;
+const LONG_BLANK: usize = DRAFT_LIMITS + 2;
 
 /// A draft at a limit, or one past it, and the refusal number it then gets.
 pub fn draft(limit: usize, past: bool) -> (Draft, u16) {
@@ -25,7 +31,15 @@ pub fn draft(limit: usize, past: bool) -> (Draft, u16) {
         8 => name(&mut draft, 64 + more),
         9 => variable(&mut draft, 64 + more),
         10 => identifier(&mut draft, 128 + more),
-        _ => line_number(&mut draft, past),
+        11 => line_number(&mut draft, past),
+        12 => one_list(&mut draft.objects[0], 1_024 + more, "OTHER|||"),
+        13 => one_list(&mut draft.subjects[0], 1_024 + more, "m|"),
+        14 => omitted(&mut draft, past),
+        15 => read_elements(&mut draft, 16 + more),
+        16 => listed_name(&mut draft, 64 + more),
+        17 => uid(&mut draft, 64 + more),
+        18 => object_identifier(&mut draft, 128 + more),
+        _ => bound(&mut draft, past),
     };
     (draft, if past { number } else { 0 })
 }
@@ -35,9 +49,9 @@ pub fn draft(limit: usize, past: bool) -> (Draft, u16) {
 pub fn text(limit: usize, past: bool) -> (Vec<u8>, u16) {
     let more = usize::from(past);
     match limit % LIMITS {
-        12 => (long_text(&base(), 65_536 + more), 2 * u16::from(past)),
-        13 => (long_filled(65_536 + more), 31 * u16::from(past)),
-        14 => (vec![b'\n'; 65_536 + more], if past { 2 } else { 4 }),
+        LONG_TEXT => (long_text(&base(), 65_536 + more), 2 * u16::from(past)),
+        LONG_FILLED => (long_filled(65_536 + more), 31 * u16::from(past)),
+        LONG_BLANK => (vec![b'\n'; 65_536 + more], if past { 2 } else { 4 }),
         limit => {
             let (draft, number) = draft(limit, past);
             (write::text(&write::lines(&draft)), number)
@@ -165,6 +179,77 @@ fn line_number(draft: &mut Draft, past: bool) -> u16 {
     let line = if past { "1000000" } else { "999999" };
     draft.objects[0].members.push(format!("HEAP|m|{line}|"));
     5
+}
+
+/// All members of a map in one list.
+fn one_list(domain: &mut Domain, count: usize, before: &str) -> u16 {
+    domain.members.truncate(1);
+    let others = (1..count).map(|number| format!("{before}{number}"));
+    domain.members.extend(others);
+    6
+}
+
+/// 128 entries of two omitted fields each; past it, one has an item more.
+fn omitted(draft: &mut Draft, past: bool) -> u16 {
+    entries(draft, 128);
+    for entry in &mut draft.entries {
+        entry.can_read = Access::Omitted;
+        entry.can_write = Access::Omitted;
+    }
+    let item = Item {
+        objects: Grant::Bare,
+        context: Context::Omitted,
+    };
+    let items = vec![item; 1 + usize::from(past)];
+    draft.entries[64].can_read = Access::Items(items);
+    6
+}
+
+fn read_elements(draft: &mut Draft, count: usize) -> u16 {
+    let number = object_elements(draft, count);
+    let entry = &mut draft.entries[0];
+    std::mem::swap(&mut entry.can_read, &mut entry.can_write);
+    number
+}
+
+/// A name of 64 bytes, and a list with that name, longer if so asked.
+fn listed_name(draft: &mut Draft, length: usize) -> u16 {
+    draft.subjects.push(domain(&"n".repeat(64), &[]));
+    draft.entries[0].can_return = Grant::List(vec!["S".to_string(), "n".repeat(length)]);
+    5
+}
+
+fn uid(draft: &mut Draft, length: usize) -> u16 {
+    draft.entries[0].context = Context::Keys {
+        call_context: None,
+        uid: Some("u".repeat(length)),
+        gid: None,
+    };
+    5
+}
+
+fn object_identifier(draft: &mut Draft, length: usize) -> u16 {
+    let member = format!("OTHER|||{}", "x".repeat(length - 8));
+    draft.objects[0].members.push(member);
+    5
+}
+
+/// `uid: U` in an object context under the entry's, or under no binding.
+fn bound(draft: &mut Draft, past: bool) -> u16 {
+    let context = Context::Keys {
+        call_context: None,
+        uid: Some("U".to_string()),
+        gid: None,
+    };
+    let entry = &mut draft.entries[0];
+    entry.can_write = Access::Items(vec![Item {
+        objects: Grant::All,
+        context,
+    }]);
+    if past {
+        entry.context = Context::Omitted;
+    }
+    10
 }
 
 /// A good text of this length, its end one long comment.

@@ -5,8 +5,8 @@
 
 use crate::dice::Dice;
 use crate::events::{self, OwnEvent};
-use crate::{tables, texts};
-use second::{decode, first_fault, judge, overlap, Refusal};
+use crate::{readings, tables, texts};
+use second::{decode, first_fault, judge, overlap, read, Refusal, TABLE_WORDS};
 
 /// The codes of the trials' operations.
 const READ: u16 = 1;
@@ -16,13 +16,17 @@ const RETURN: u16 = 4;
 /// The seed of all stored cases.
 const SEED: u64 = 2_026;
 
+/// What each word of a table holds before it is read into.
+pub const UNTOUCHED: u16 = 7;
+
 /// Each file's name and its bytes.
-pub fn files() -> [(&'static str, Vec<u8>); 4] {
+pub fn files() -> [(&'static str, Vec<u8>); 5] {
     [
         ("trials.cases", trials()),
         ("judge.cases", judge_cases()),
         ("overlap.cases", overlap_cases()),
         ("page.cases", page_cases()),
+        ("read.cases", read_cases()),
     ]
 }
 
@@ -181,6 +185,23 @@ fn page_cases() -> Vec<u8> {
         put_u32(&mut out, text.len() as u32);
         out.extend_from_slice(&text);
         put_u64(&mut out, Refusal::answer(first_fault(&text)).packed());
+    }
+    out
+}
+
+fn read_cases() -> Vec<u8> {
+    let all = readings::all(SEED + 3);
+    let mut out = Vec::new();
+    put_u32(&mut out, all.len() as u32);
+    for (text, room) in all {
+        let mut table = vec![UNTOUCHED; room];
+        let answer = Refusal::answer(read(&text, &mut table).err());
+        put_u32(&mut out, text.len() as u32);
+        out.extend_from_slice(&text);
+        put_u16(&mut out, room as u16);
+        put_u64(&mut out, answer.packed());
+        // Nothing is written into a table that is too short.
+        put_table(&mut out, table.get(..TABLE_WORDS).unwrap_or_default());
     }
     out
 }

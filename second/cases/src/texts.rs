@@ -1,15 +1,27 @@
 //! Texts: good files, damaged ones, files at the limits, and noise.
 
 use crate::dice::Dice;
-use crate::{damage, draft, limits, write};
+use crate::{damage, draft, large, limits, write};
+
+/// The texts that every run begins with: those at each limit and one past it,
+/// then the large ones.
+pub fn first(case: u64) -> Option<Vec<u8>> {
+    let case = usize::try_from(case).ok()?;
+    match case.checked_sub(2 * limits::LIMITS) {
+        None => Some(limits::text(case / 2, case % 2 == 1).0),
+        Some(place) => large::texts().get(place).map(|large| large.text.clone()),
+    }
+}
 
 /// Any text.
 pub fn text(dice: &mut Dice) -> Vec<u8> {
     match dice.below(1_000) {
         0..=7 => limits::text(dice.below(limits::LIMITS), dice.percent(50)).0,
         8..=19 => damaged_limit(dice),
-        20..=29 => noise(dice),
-        30..=379 => good(dice),
+        20..=22 => damaged_large(dice),
+        23..=29 => noise(dice),
+        30..=279 => good(dice),
+        280..=629 => against_rules(dice),
         _ => damaged(dice),
     }
 }
@@ -52,6 +64,31 @@ pub fn damaged(dice: &mut Dice) -> Vec<u8> {
     text
 }
 
+/// The numbers of the rules over the whole file, in their order.
+const RULES: [u16; 5] = [6, 7, 8, 10, 11];
+
+/// A text whose page is in order, with faults against the rules over the whole
+/// file: one or several at once, so that their order and lines count.
+pub fn against_rules(dice: &mut Dice) -> Vec<u8> {
+    let mut draft = draft::draft(dice);
+    let least = dice.below(RULES.len());
+    for _ in 0..dice.from_to(1, 5) {
+        let number = *dice.pick(&RULES[least..]);
+        damage::rule(dice, &mut draft, number);
+    }
+    let lines = write::with_skipped(dice, write::lines(&draft));
+    write::text(&lines)
+}
+
+/// A large text with a fault or two in its lines or bytes.
+fn damaged_large(dice: &mut Dice) -> Vec<u8> {
+    let mut text = dice.pick(large::texts()).text.clone();
+    for _ in 0..dice.from_to(1, 2) {
+        damage::bytes(dice, &mut text);
+    }
+    text
+}
+
 /// A text at or past a limit, with faults of other sorts beside it.
 fn damaged_limit(dice: &mut Dice) -> Vec<u8> {
     let limit = dice.below(limits::LIMITS);
@@ -63,7 +100,11 @@ fn damaged_limit(dice: &mut Dice) -> Vec<u8> {
     }
     let (mut draft, _) = limits::draft(limit, past);
     for _ in 0..dice.below(4) {
-        damage::draft(dice, &mut draft);
+        let number = *dice.pick(&RULES);
+        match dice.percent(50) {
+            true => damage::draft(dice, &mut draft),
+            false => damage::rule(dice, &mut draft, number),
+        }
     }
     let mut lines = write::with_skipped(dice, write::lines(&draft));
     for _ in 0..*dice.pick(&[0, 0, 1, 2]) {

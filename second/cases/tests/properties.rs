@@ -20,6 +20,17 @@ fn each_case(share: u64, mut run: impl FnMut(&mut Dice)) {
     }
 }
 
+/// Each limit and large text, then any others.
+fn each_text(mut run: impl FnMut(&mut Dice, &[u8])) {
+    for (case, text) in (0..).map_while(texts::first).enumerate() {
+        run(&mut Dice::new(case as u64), &text);
+    }
+    each_case(1, |dice| {
+        let text = texts::text(dice);
+        run(dice, &text);
+    });
+}
+
 type Mix = BTreeMap<String, u64>;
 
 fn note(mix: &mut Mix, outcome: impl ToString) {
@@ -37,24 +48,23 @@ fn show(name: &str, mix: &Mix, needed: &[&str]) {
 #[test]
 fn texts_are_answered_and_filling_keeps_the_meaning() {
     let (mut mix, mut fills) = (Mix::new(), Mix::new());
-    each_case(1, |dice| {
-        let text = texts::text(dice);
+    each_text(|dice, text| {
         let mut table = vec![0xAAAA; TABLE_WORDS + 2];
-        let answer = read(&text, &mut table);
+        let answer = read(text, &mut table);
         assert_eq!(table[TABLE_WORDS..], [0xAAAA, 0xAAAA]);
         note(&mut mix, answer.err().map_or(0, |r| r.number));
         match answer {
             Err(refusal) => {
                 assert!(table[..TABLE_WORDS].iter().all(|&word| word == 0));
-                assert_eq!(policy_of(&text), Err(refusal));
+                assert_eq!(policy_of(text), Err(refusal));
                 assert_eq!(refusal.line == 0, refusal.number == 2);
-                assert_eq!(lookup(&text, Map::Objects, 0), (0, 0));
+                assert_eq!(lookup(text, Map::Objects, 0), (0, 0));
             }
-            Ok(()) => accepted(&text, &table),
+            Ok(()) => accepted(text, &table),
         }
-        let page = first_fault(&text);
+        let page = first_fault(text);
         assert!(page.is_none() || page == answer.err());
-        check_fill(dice, &text, answer, &mut fills);
+        check_fill(dice, text, answer, &mut fills);
     });
     show(
         "read",
@@ -161,9 +171,19 @@ fn limits_are_met_and_passed() {
             );
         }
     }
-    assert_eq!(limits::text(12, false).0.len(), 65_536);
-    assert_eq!(filled(&limits::text(13, false).0).unwrap().len(), 65_536);
-    assert_eq!(filled(&limits::text(13, true).0).unwrap().len(), 65_537);
+    assert_eq!(limits::text(limits::LONG_TEXT, false).0.len(), 65_536);
+    assert_eq!(
+        filled(&limits::text(limits::LONG_FILLED, false).0)
+            .unwrap()
+            .len(),
+        65_536
+    );
+    assert_eq!(
+        filled(&limits::text(limits::LONG_FILLED, true).0)
+            .unwrap()
+            .len(),
+        65_537
+    );
 }
 
 #[test]
@@ -475,4 +495,31 @@ fn no_table_makes_the_report_slow() {
     println!("slow report: {:?}", start.elapsed());
     assert_eq!(answer, Overlap::Clear);
     assert!(start.elapsed().as_secs() < 10);
+}
+
+/// The quick reader takes exactly the texts that the plain one takes, and
+/// leaves the same words.
+#[test]
+fn the_quick_reader_answers_alike() {
+    let mut mix = Mix::new();
+    each_text(|dice, text| {
+        let room = *dice.pick(&[0, 16_383, 16_384, 16_384, 16_384, 16_384, 16_390]);
+        note(&mut mix, same_reading(text, room));
+    });
+    show(
+        "quick",
+        &mix,
+        &["0", "1", "2", "3", "4", "5", "6", "7", "8", "9", "10", "11"],
+    );
+}
+
+/// The number that both readers answer with.
+fn same_reading(text: &[u8], room: usize) -> u16 {
+    let (mut one, mut other) = (vec![0xAAAA; room], vec![0xAAAA; room]);
+    let answer = read(text, &mut one);
+    assert_eq!(quick::read(text, &mut other), answer);
+    assert_eq!(one, other);
+    let takes = quick::takes(text, &mut [0; TABLE_WORDS]);
+    assert_eq!(takes, policy_of(text).is_ok());
+    answer.err().map_or(0, |refusal| refusal.number)
 }

@@ -2,10 +2,12 @@
 //! README says they do.
 
 use cases::events::OwnEvent;
-use cases::stored::{files, runs};
+use cases::readings;
+use cases::stored::{files, runs, UNTOUCHED};
 use second::answer::REFUSED;
 use second::{
-    first_fault, judge, overlap, read, Answer, Overlap, Refusal, Verdict, EXAMPLE, TABLE_WORDS,
+    first_fault, judge, overlap, policy_of, read, Answer, Overlap, Refusal, Verdict, EXAMPLE,
+    TABLE_WORDS,
 };
 use std::collections::HashSet;
 use std::path::Path;
@@ -20,7 +22,7 @@ fn stored_files_are_made_again_byte_for_byte() {
 
 #[test]
 fn stored_files_are_small() {
-    let limits = [1_000, 159_000, 150_000, 100_000];
+    let limits = [1_000, 159_000, 150_000, 100_000, 150_000];
     for ((name, bytes), limit) in files().iter().zip(limits) {
         assert!(bytes.len() < limit, "{name}: {}", bytes.len());
     }
@@ -162,6 +164,39 @@ fn page_cases_replay() {
     let refusals = [3, 4, 5, 9].map(|number| (REFUSED, number));
     let needed = refusals.into_iter().chain([(2, 0)]);
     assert_eq!(seen, needed.collect());
+}
+
+#[test]
+fn read_cases_replay() {
+    let mut replay = Replay::of("read.cases");
+    let mut seen = HashSet::new();
+    for _ in 0..replay.number(4) {
+        let length = replay.number(4) as usize;
+        let text = replay.bytes[replay.at..replay.at + length].to_vec();
+        replay.at += length;
+        let mut table = vec![UNTOUCHED; replay.number(2) as usize];
+        let answer = Refusal::answer(read(&text, &mut table).err());
+        assert_eq!(answer, Answer::of(replay.number(8)));
+        let mut stored = replay.table();
+        stored.resize(table.len(), UNTOUCHED);
+        assert_eq!(table, stored);
+        seen.insert((answer.class, answer.value));
+    }
+    assert_eq!(replay.at, replay.bytes.len());
+    // A text that is too long does not fit in here.
+    let refusals = [1, 3, 4, 5, 6, 7, 8, 9, 10, 11].map(|number| (REFUSED, number));
+    let needed = refusals.into_iter().chain([(2, 0)]);
+    assert_eq!(seen, needed.collect());
+}
+
+#[test]
+fn counts_are_met_and_passed() {
+    let number = |text: String| match policy_of(text.as_bytes()) {
+        Ok(_) => 0,
+        Err(refusal) => refusal.number,
+    };
+    let numbers = readings::counts().map(number);
+    assert_eq!(numbers, [0, 6, 6, 0, 6, 0, 6, 0, 6, 6]);
 }
 
 #[test]

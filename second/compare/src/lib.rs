@@ -13,6 +13,7 @@ pub mod lent;
 pub mod options;
 pub mod overlap;
 pub mod page;
+pub mod read;
 pub mod run;
 pub mod show;
 pub mod well_formed;

@@ -12,7 +12,7 @@ use second::{decode, matches, overlap, Answer, Overlap, WITNESS_WORDS};
 const TABLE: u32 = 0;
 const WITNESS: u32 = 1;
 
-pub fn ask(dice: &mut Dice, options: &Options, requests: &mut Requests) -> Check {
+pub fn ask(_: u64, dice: &mut Dice, options: &Options, requests: &mut Requests) -> Check {
     let words = tables::table(dice);
     let room = *dice.pick(&[0, 1, 31, 32, 32, 32, 32, 32, 33, 33, 40, 100]);
     let before = vec![u16::CANARY; room];

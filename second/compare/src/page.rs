@@ -8,8 +8,8 @@ use cases::{texts, Dice};
 use second::answer::REFUSED;
 use second::{first_fault, Answer, Refusal};
 
-pub fn ask(dice: &mut Dice, _: &Options, requests: &mut Requests) -> Check {
-    let bytes = texts::text(dice);
+pub fn ask(case: u64, dice: &mut Dice, _: &Options, requests: &mut Requests) -> Check {
+    let bytes = texts::first(case).unwrap_or_else(|| texts::text(dice));
     requests.lend(0, &bytes);
     requests.call(&Call::new(Function::Page, &[0], &[]));
     requests.show(0);
@@ -17,10 +17,7 @@ pub fn ask(dice: &mut Dice, _: &Options, requests: &mut Requests) -> Check {
         let plain = Refusal::answer(first_fault(&bytes));
         check(&bytes, plain, replies)
             .map_err(|fault| show::difference(&[show::text(&bytes)], fault))?;
-        mix.count(match plain.class {
-            REFUSED => format!("refused {:>2}", plain.value),
-            _ => "accepted".to_string(),
-        });
+        mix.count(outcome(plain));
         Ok(())
     })
 }
@@ -30,7 +27,16 @@ fn check(bytes: &[u8], plain: Answer, replies: &mut Replies<'_>) -> Result<(), S
     replies.shown()?.check("text", bytes)
 }
 
-fn told(answer: Answer) -> String {
+/// What an answer to a text says.
+pub fn told(answer: Answer) -> String {
     let Answer { class, value, rest } = answer;
     format!("class {class} number {value} line {rest}")
+}
+
+/// Which sort of answer it is.
+pub fn outcome(answer: Answer) -> String {
+    match answer.class {
+        REFUSED => format!("refused {:>2}", answer.value),
+        _ => "accepted".to_string(),
+    }
 }

@@ -4,13 +4,13 @@ use crate::bridge::Bridge;
 use crate::case::{Check, Mix};
 use crate::options::Options;
 use crate::wire::{Function, Replies, Requests};
-use crate::{judge, overlap, page, well_formed};
+use crate::{judge, overlap, page, read, well_formed};
 use cases::Dice;
 use std::io::{self, Write};
 use std::ops::Range;
 
-/// Makes one case and asks for it.
-type Ask = fn(&mut Dice, &Options, &mut Requests) -> Check;
+/// Makes the case of this number and asks for it.
+type Ask = fn(u64, &mut Dice, &Options, &mut Requests) -> Check;
 
 fn ask(function: Function) -> Ask {
     match function {
@@ -19,6 +19,7 @@ fn ask(function: Function) -> Ask {
         Function::JudgeKnown => judge::ask_known,
         Function::Overlap => overlap::ask,
         Function::Page => page::ask,
+        Function::Read => read::ask,
     }
 }
 
@@ -108,7 +109,7 @@ impl Round {
         let mut end = cases.start;
         while end < cases.end && requests.bytes().len() < full {
             let mut dice = Dice::of_case(options.seed, end);
-            checks.push(ask(function)(&mut dice, options, &mut requests));
+            checks.push(ask(function)(end, &mut dice, options, &mut requests));
             end += 1;
         }
         Round {

@@ -6,7 +6,7 @@ use crate::show;
 use crate::wire::{Call, Function, Replies, Requests};
 use cases::{tables, Dice};
 
-pub fn ask(dice: &mut Dice, _: &Options, requests: &mut Requests) -> Check {
+pub fn ask(_: u64, dice: &mut Dice, _: &Options, requests: &mut Requests) -> Check {
     let words = if dice.percent(50) {
         tables::doubtful_table(dice)
     } else {

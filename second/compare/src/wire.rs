@@ -11,15 +11,17 @@ pub enum Function {
     JudgeKnown,
     Overlap,
     Page,
+    Read,
 }
 
 impl Function {
-    pub const ALL: [Function; 5] = [
+    pub const ALL: [Function; 6] = [
         Function::WellFormed,
         Function::Judge,
         Function::JudgeKnown,
         Function::Overlap,
         Function::Page,
+        Function::Read,
     ];
 
     pub fn name(self) -> &'static str {
@@ -29,6 +31,7 @@ impl Function {
             Function::JudgeKnown => "judge_known",
             Function::Overlap => "overlap",
             Function::Page => "page",
+            Function::Read => "read",
         }
     }
 }

@@ -30,11 +30,17 @@ fn every_name_of_the_header_is_the_plain_number() {
         uid: 0,
     };
     let refusals = [
+        ("TABLE_TOO_SHORT", refusal::SHORT_TABLE),
         ("TEXT_TOO_LONG", refusal::LONG_TEXT),
         ("BAD_BYTE", refusal::BYTE),
         ("LAYOUT", refusal::LAYOUT),
         ("SCALAR", refusal::SCALAR),
+        ("COUNT", refusal::COUNT),
+        ("TWICE", refusal::TWICE),
+        ("UNKNOWN", refusal::UNKNOWN),
         ("EMPTY_FIELD", refusal::EMPTY),
+        ("UNBOUND", refusal::UNBOUND),
+        ("SAME_PRINCIPAL", refusal::SAME_PRINCIPAL),
         ("TABLE_ILL_FORMED", refusal::NOT_WELL_FORMED),
         ("STACK", refusal::STACK),
         ("ALLOCATION_STACK", refusal::ALLOCATION),

@@ -26,7 +26,15 @@ fn compared(fault: &str, options: &Options) -> (bool, String) {
 fn a_right_stand_in_is_equal() {
     let (equal, printed) = compared("", &options("--count 300").unwrap());
     assert!(equal, "{printed}");
-    for name in ["well_formed", "judge", "judge_known", "overlap", "page"] {
+    let names = [
+        "well_formed",
+        "judge",
+        "judge_known",
+        "overlap",
+        "page",
+        "read",
+    ];
+    for name in names {
         let line = format!("{name}: 300 cases equal\n");
         assert!(printed.contains(&line), "{printed}");
     }
@@ -150,6 +158,38 @@ fn wrong_pages_are_found() {
 }
 
 #[test]
+fn wrong_readings_are_found() {
+    let only = "--only read";
+    let faults = [
+        ("a grant is wrong", "table: place 2114"),
+        ("the last word is wrong", "table: place 16383 is Some(1)"),
+        ("a short table is changed", "table: place 0 is Some(0)"),
+        ("a refused text leaves a word", "expected Some(0)"),
+        ("an unknown name is refused as a repeat", "number 8"),
+        ("a repeat is on the line before", "number 7"),
+        ("word 16,384 is changed", "table: place 16384 is Some(0)"),
+        ("a word past the table is changed", "table: written outside"),
+        ("a text is changed", "text: place"),
+    ];
+    for (fault, told) in faults {
+        found(fault, only, &["text of", "table of", told]);
+    }
+}
+
+/// Every refusal, and every limit, is among the cases that the gate runs.
+#[test]
+fn readings_have_every_outcome() {
+    let (equal, printed) = compared("", &options("--only read --count 3000").unwrap());
+    assert!(equal, "{printed}");
+    for number in 1..=11 {
+        let line = format!("  refused {number:>2}: ");
+        assert!(printed.contains(&line), "{printed}");
+    }
+    assert!(printed.contains("  accepted: "), "{printed}");
+    println!("{printed}");
+}
+
+#[test]
 fn the_case_at_which_a_bridge_ends_is_found() {
     found(
         "a page ends the bridge",
@@ -204,18 +244,28 @@ fn bench_times_a_stand_in_and_finds_other_answers() {
     let run = |fault: &str| {
         let mut command = Command::new(env!("CARGO_BIN_EXE_bench"));
         command.env("STAND_IN", fault).args(["--bridge", STAND_IN]);
-        command.args(["--events", "40"]).output().unwrap()
+        command.args(["--events", "40", "--runs", "1"]);
+        command.output().unwrap()
     };
     let timed = run("");
     let printed = String::from_utf8(timed.stdout).unwrap();
     assert!(timed.status.success(), "{printed}");
-    for row in ["the table test", "the report", "a page", "64 frames"] {
+    let rows = [
+        "read: patterns",
+        "page: one hash",
+        "the table test",
+        "the report",
+        "64 frames",
+    ];
+    for row in rows {
         assert!(printed.contains(row), "{printed}");
     }
-    let wrong = run("all is inside one domain");
-    assert!(!wrong.status.success());
-    let said = String::from_utf8(wrong.stderr).unwrap();
-    assert!(said.starts_with("answers differ"), "{said}");
+    for fault in ["all is inside one domain", "the last word is wrong"] {
+        let wrong = run(fault);
+        assert!(!wrong.status.success());
+        let said = String::from_utf8(wrong.stderr).unwrap();
+        assert!(said.starts_with("answers differ"), "{said}");
+    }
 }
 
 #[test]

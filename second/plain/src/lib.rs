@@ -14,6 +14,7 @@ pub mod overlap;
 pub mod page;
 pub mod policy;
 pub mod program;
+pub mod quick;
 pub mod reader;
 pub mod refusal;
 pub mod rules;

@@ -28,29 +28,42 @@ pub fn is_gid(bytes: &[u8]) -> bool {
     bytes == b"all" || is_variable(bytes)
 }
 
-/// "Identifiers: 1 to 128 bytes 0x21 to 0x7E without `, [ ] { } # " ' :`, the
-/// first a letter, digit, `/`, `.` or `_`."
+/// The bytes of identifiers: "0x21 to 0x7E without `, [ ] { } # " ' :`".
+const IDENTIFIER: [bool; 256] = {
+    let mut bytes = [false; 256];
+    let mut byte = 0x21;
+    while byte <= 0x7E {
+        bytes[byte as usize] = !matches!(
+            byte,
+            b',' | b'[' | b']' | b'{' | b'}' | b'#' | b'"' | b'\'' | b':'
+        );
+        byte += 1;
+    }
+    bytes
+};
+
+/// "Identifiers: 1 to 128 bytes .., the first a letter, digit, `/`, `.` or
+/// `_`."
 fn is_identifier(bytes: &[u8]) -> bool {
-    let barred = |byte: u8| b",[]{}#\"':".contains(&byte);
     (1..=128).contains(&bytes.len())
-        && bytes
-            .iter()
-            .all(|&byte| (0x21..=0x7E).contains(&byte) && !barred(byte))
+        && bytes.iter().all(|&byte| IDENTIFIER[usize::from(byte)])
         && (bytes[0].is_ascii_alphanumeric() || b"/._".contains(&bytes[0]))
 }
 
-/// The parts of an identifier between its `|`.
-fn parts(bytes: &[u8]) -> Vec<&[u8]> {
-    bytes.split(|&byte| byte == b'|').collect()
+/// The parts of an identifier between its `|`, if there are so many.
+fn parts<const N: usize>(bytes: &[u8]) -> Option<[&[u8]; N]> {
+    let mut parts = bytes.split(|&byte| byte == b'|');
+    let mut all = [&b""[..]; N];
+    for part in &mut all {
+        *part = parts.next()?;
+    }
+    parts.next().is_none().then_some(all)
 }
 
 /// "Subject identifier: exactly one `|`, bytes on both sides."
 pub fn is_subject_identifier(bytes: &[u8]) -> bool {
     is_identifier(bytes)
-        && match parts(bytes)[..] {
-            [unit, name] => !unit.is_empty() && !name.is_empty(),
-            _ => false,
-        }
+        && parts(bytes).is_some_and(|[unit, name]| !unit.is_empty() && !name.is_empty())
 }
 
 /// An element of a `call_context`: "function identifiers or `all`".
@@ -68,7 +81,7 @@ pub fn is_object_identifier(bytes: &[u8]) -> bool {
     if !is_identifier(bytes) {
         return false;
     }
-    let [sort, path, line, name] = parts(bytes)[..] else {
+    let Some([sort, path, line, name]) = parts(bytes) else {
         return false;
     };
     match sort {

@@ -20,12 +20,12 @@ pub const DESCRIPTOR_WORDS: usize = 32;
 pub const UNUSED_AT: usize = 15_904;
 
 pub const PATTERN_AT: usize = 4;
-const SUBJECT_AT: usize = 20;
-const READS_AT: usize = 21;
-const WRITES_AT: usize = 22;
-const CALL_AT: usize = 24;
-const RETURN_AT: usize = 33;
-const DESCRIPTOR_GRANT_AT: usize = 20;
+pub(crate) const SUBJECT_AT: usize = 20;
+pub(crate) const READS_AT: usize = 21;
+pub(crate) const WRITES_AT: usize = 22;
+pub(crate) const CALL_AT: usize = 24;
+pub(crate) const RETURN_AT: usize = 33;
+pub(crate) const DESCRIPTOR_GRANT_AT: usize = 20;
 const GRANT_WORDS: usize = 9;
 
 /// The table of a policy, or nothing if no table holds it.

@@ -7,17 +7,17 @@ use Rattle.text_keys.proofs.alongside.Tie as tie
 column-requires : tie.Need-column-requires
 column-requires c κs = search needs
 
-column-requires-2 : tie.Need-column-requires-2
-column-requires-2 c κs = search needs
+key-column-requires : tie.Need-key-column-requires
+key-column-requires c κs = search needs
 
 returns : tie.Need-returns
 returns c = search (needs, alongside-away)
 
+key-dashed-requires : tie.Need-key-dashed-requires
+key-dashed-requires c κs = search needs
+
 dashed-requires : tie.Need-dashed-requires
 dashed-requires c κs = search needs
-
-dashed-requires-2 : tie.Need-dashed-requires-2
-dashed-requires-2 c κs = search needs
 
 returns-2 : tie.Need-returns-2
 returns-2 c = search (needs, alongside-dashed)
@@ -30,9 +30,9 @@ alongside-spec =
     tie.close
     (tie.spec
     column-requires
-    column-requires-2
+    key-column-requires
     returns
+    key-dashed-requires
     dashed-requires
-    dashed-requires-2
     returns-2
     returns-3)

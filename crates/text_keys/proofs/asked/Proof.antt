@@ -4,8 +4,8 @@ use borrow.Author.Needs.{needs}
 use Rattle.text_keys.proofs.asked.Statement.{statement}
 use Rattle.text_keys.proofs.asked.Tie as tie
 
-fits-requires : tie.Need-fits-requires
-fits-requires c κs = search needs
+is-front-of-requires : tie.Need-is-front-of-requires
+is-front-of-requires c κs = search needs
 
 returns : tie.Need-returns
 returns c = search (needs, answer-yes)
@@ -14,4 +14,4 @@ returns-2 : tie.Need-returns-2
 returns-2 c = search (needs, answer-no)
 
 pub asked-spec : {M : Type 1} → statement M
-asked-spec = tie.close (tie.spec fits-requires returns returns-2)
+asked-spec = tie.close (tie.spec is-front-of-requires returns returns-2)

@@ -1,5 +1,5 @@
 -- The first of the places decides.
-use Rattle.text_keys.proofs.Looks.{block-none, block-yes, block-no}
+use Rattle.text_keys.proofs.Looks.{block-none, block-some}
 use borrow.Author.Needs.{needs}
 use Rattle.text_keys.proofs.begins_block.Statement.{statement}
 use Rattle.text_keys.proofs.begins_block.Tie as tie
@@ -10,22 +10,11 @@ returns c = search (needs, block-none)
 row-at-requires : tie.Need-row-at-requires
 row-at-requires c κs = search needs
 
-key-asked-requires : tie.Need-key-asked-requires
-key-asked-requires c κs = search needs
-
-enum-told : tie.Need-enum-told
-enum-told c = search needs
+alongside-requires : tie.Need-alongside-requires
+alongside-requires c κs = search needs
 
 returns-2 : tie.Need-returns-2
-returns-2 c = search (needs, block-yes)
-
-enum-told-2 : tie.Need-enum-told-2
-enum-told-2 c = search needs
-
-returns-3 : tie.Need-returns-3
-returns-3 c = search (needs, block-no)
+returns-2 c = search (needs, block-some)
 
 pub begins-block-spec : {M : Type 1} → statement M
-begins-block-spec =
-    tie.close
-    (tie.spec returns row-at-requires key-asked-requires enum-told returns-2 enum-told-2 returns-3)
+begins-block-spec = tie.close (tie.spec returns row-at-requires alongside-requires returns-2)

@@ -5,7 +5,8 @@ use Prim.Native.Nat.{_-_, _≤_}
 use lib.ListN.{length, drop}
 use Rattle.paper.specs.Common.{allOf}
 use Rattle.paper.specs.Text.{mayStand}
-use Rattle.text_lines.proofs.Laws.{stands-again, stands-done}
+use Rattle.text_bytes.proofs.Laws.{right-again}
+use Rattle.text_lines.proofs.Laws.{stands-told}
 use borrow.Author.Needs.{needs}
 use Rattle.text_lines.proofs.has_bad_byte.Statement.{statement}
 use Rattle.text_lines.proofs.has_bad_byte.Tie as tie
@@ -32,10 +33,10 @@ loop-less : tie.Need-loop-less Inv-loop μ-loop
 loop-less c = search needs
 
 loop-again : tie.Need-loop-again Inv-loop μ-loop
-loop-again c = search (needs, stands-again)
+loop-again c = search (needs, right-again)
 
 returns : tie.Need-returns Inv-loop μ-loop
-returns c = search (needs, stands-done)
+returns c = search (needs, stands-told)
 
 pub has-bad-byte-spec : {M : Type 1} → statement M
 has-bad-byte-spec =

@@ -4,8 +4,8 @@ use borrow.Author.Needs.{needs}
 use Rattle.text_lines.proofs.line_at.Statement.{statement}
 use Rattle.text_lines.proofs.line_at.Tie as tie
 
-find-requires : tie.Need-find-requires
-find-requires c κs = search needs
+line-end-requires : tie.Need-line-end-requires
+line-end-requires c κs = search needs
 
 add-t6 : tie.Need-add-t6
 add-t6 c = search needs
@@ -17,4 +17,4 @@ returns-2 : tie.Need-returns-2
 returns-2 c = search (needs, splits-open)
 
 pub line-at-spec : {M : Type 1} → statement M
-line-at-spec = tie.close (tie.spec find-requires add-t6 returns returns-2)
+line-at-spec = tie.close (tie.spec line-end-requires add-t6 returns returns-2)

@@ -6,12 +6,15 @@
 use compare::lent::Lent;
 use compare::wire::{Call, Function, CALL, LEND, SHOW, TIME, WHAT_IS_HERE};
 use second::policy::ELEMENTS;
-use second::refusal::EMPTY;
+use second::refusal::{EMPTY, LAYOUT, SHORT_TABLE, TWICE, UNKNOWN};
 use second::table::{ENTRIES_AT, ENTRY_WORDS, PATTERN_AT, UNUSED_AT};
 use second::{first_fault, well_formed, Event, Overlap, Refusal, Verdict, TABLE_WORDS};
 use std::collections::BTreeMap;
 use std::io::{self, Read, Write};
 use std::time::Instant;
+
+/// The first word of the domains that entry 0 may return to.
+const RETURN_SET: usize = ENTRIES_AT + 34;
 
 /// What is lent, as bytes between canaries.
 type Slots = BTreeMap<u32, Vec<u8>>;
@@ -128,6 +131,22 @@ fn answer(fault: &str, slots: &mut Slots, call: &Call) -> u64 {
             let text: Option<Lent<u8>> = Lent::of(&slots[&call.slots[0]]);
             paged(fault, text.expect("a text lent").get())
         }
+        Function::Read => {
+            let text: Option<Lent<u8>> = Lent::of(&slots[&call.slots[0]]);
+            let (mut text, mut table) = (text.expect("a text lent"), words(1));
+            let answer = taken(fault, text.get(), table.get_mut());
+            match fault {
+                "a text is changed" => text.get_mut().fill(b' '),
+                "a word past the table is changed" => {
+                    let place = 8 + table.get().len();
+                    table.all_mut()[place] = 0;
+                }
+                _ => {}
+            }
+            slots.insert(call.slots[0], text.bytes());
+            slots.insert(call.slots[1], table.bytes());
+            answer
+        }
     }
 }
 
@@ -215,6 +234,22 @@ fn paged(fault: &str, text: &[u8]) -> u64 {
         ("every page is fine", _) => answer = Refusal::answer(None),
         ("a line is one too small", EMPTY) => answer.rest -= 1,
         ("a page ends the bridge", EMPTY) => std::process::exit(7),
+        _ => {}
+    }
+    answer.packed()
+}
+
+fn taken(fault: &str, text: &[u8], table: &mut [u16]) -> u64 {
+    let first = table.first().copied();
+    let mut answer = Refusal::answer(second::read(text, table).err());
+    match (fault, answer.value) {
+        ("a grant is wrong", 0) => table[RETURN_SET] ^= 1,
+        ("the last word is wrong", 0) => table[TABLE_WORDS - 1] = 1,
+        ("a short table is changed", SHORT_TABLE) => table.fill(0),
+        ("a refused text leaves a word", LAYOUT) => table[0] = first.unwrap_or(0),
+        ("an unknown name is refused as a repeat", UNKNOWN) => answer.value = TWICE,
+        ("a repeat is on the line before", TWICE) => answer.rest -= 1,
+        ("word 16,384 is changed", _) if table.len() > TABLE_WORDS => table[TABLE_WORDS] = 0,
         _ => {}
     }
     answer.packed()

@@ -1,0 +1,5 @@
+pub mod Behind
+pub mod Walked
+pub mod Contexts
+pub mod Granted
+pub mod Entries

@@ -1,0 +1,4 @@
+pub mod Omitted
+pub mod Unbound
+pub mod Principals
+pub mod Twins

@@ -1,0 +1,18 @@
+-- One key or the other.
+use Rattle.file_entries.proofs.Omitted.{uid-omitted, gid-omitted}
+use Rattle.file_entries.proofs.Unbound.{either-key}
+use borrow.Author.Needs.{needs}
+use Rattle.file_entries.proofs.is_unbound.Statement.{statement}
+use Rattle.file_entries.proofs.is_unbound.Tie as tie
+
+is-unbound-key-requires : tie.Need-is-unbound-key-requires
+is-unbound-key-requires c κs = search (needs, uid-omitted)
+
+is-unbound-key-requires-2 : tie.Need-is-unbound-key-requires-2
+is-unbound-key-requires-2 c κs = search (needs, gid-omitted)
+
+returns : tie.Need-returns
+returns c = search (needs, either-key)
+
+pub is-unbound-spec : {M : Type 1} → statement M
+is-unbound-spec = tie.close (tie.spec is-unbound-key-requires is-unbound-key-requires-2 returns)

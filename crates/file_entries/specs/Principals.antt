@@ -1,0 +1,59 @@
+-- Principals by number: the hash of each, and the entries that were passed, each with its hash.
+use Prim.Native.Nat.{ℕ, zero, suc, _+_, _*_, _<_, _≤_}
+use mathlib.Core.Path.{_≡_}
+use mathlib.Core.List.{List, [], _∷_}
+use lib.ListN.{length, getD}
+use Rattle.paper.specs.Listing.{subjectOfEntry, executionContext, callContextIn, uidIn, gidIn}
+use Rattle.paper.specs.Scalars.{sortNumber, sortOf}
+use Rattle.paper.specs.Page.{Field}
+use Rattle.paper.specs.Entries.{valueAt}
+use Rattle.file_fields.specs.Fields.{fieldSize, between}
+use Rattle.file_index.specs.Buckets.{hashOf}
+
+-- the multiplier of the hashes
+abbrev pub multiplier : ℕ
+multiplier = 65599
+
+-- there are four sorts
+abbrev pub sorts : ℕ
+sorts = 4
+
+-- the hash of the value at a place
+unfoldable pub hashAt : ℕ → List Field → ℕ
+hashAt place entry = hashOf multiplier (valueAt place entry)
+
+-- the number of the sort at a place
+unfoldable pub sortAt : ℕ → List Field → ℕ
+sortAt place entry = sortNumber (sortOf (valueAt place entry))
+
+-- a number that equal principals have in common, and others hardly ever
+unfoldable pub principalHash : List Field → ℕ
+principalHash entry =
+    sorts
+    * (sorts * (hashAt subjectOfEntry entry + hashAt (callContextIn executionContext) entry) + sortAt (uidIn executionContext) entry)
+    + sortAt (gidIn executionContext) entry
+
+-- room for the starts of the entries, and for the end of the last
+abbrev pub startsSize : ℕ
+startsSize = 129
+
+-- entry j: from its start up to that of the next
+abbrev pub entryIn : List ℕ → List ℕ → List ℕ → ℕ → List Field
+entryIn t list starts j = between t list (getD starts j 0) (getD starts (j + 1) 0)
+
+-- the entries below number j, the last first
+unfoldable pub entriesBelow : List ℕ → List ℕ → List ℕ → ℕ → List (List Field)
+entriesBelow t list starts zero = []
+entriesBelow t list starts (suc j) = entryIn t list starts j ∷ entriesBelow t list starts j
+
+-- entry j ends within the list and has its hash
+pub record Hashed (t list starts hashes : List ℕ) (j : ℕ) : Type 0 where
+  pub start : j + 1 < length starts
+  pub room : j < length hashes
+  pub end : fieldSize * getD starts (j + 1) 0 ≤ length list
+  pub hash : getD hashes j 0 ≡ principalHash (entryIn t list starts j)
+
+-- so does each of those below number j
+unfoldable pub AllHashed : List ℕ → List ℕ → List ℕ → List ℕ → ℕ → Type 0
+AllHashed t list starts hashes zero = Unit
+AllHashed t list starts hashes (suc j) = Hashed t list starts hashes j × AllHashed t list starts hashes j

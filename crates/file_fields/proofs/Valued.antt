@@ -1,0 +1,150 @@
+-- What a value holds: its sort, and its elements, one more than there are commas.
+use mathlib.Core.Path.{_≡_, refl, sym, ap, _∙_}
+use mathlib.Core.Bool.{Bool, true, false, cond, not, _||_}
+use mathlib.Core.List.{List, [], _∷_, map}
+use Prim.Native.Nat.{ℕ, suc, _+_, _-_, _*_, _^_, _<_, _≤_}
+use native.Mathlib.Omega.{arith}
+use mir.Syntax.{w64}
+use mir.Val.{Fits}
+use lib.Dec.{eqb, ltb}
+use lib.ListN.{length, getD, take, drop, length-map, length-take, length-drop, drop-of-length-le}
+use borrow.Author.Tests.{eq-eqb, ne-eqb, lt-ltb, le-ltb}
+use Rattle.paper.specs.Common.{isEmpty, is, cut, onPiece}
+use Rattle.paper.specs.Text.{comma}
+use Rattle.paper.specs.Scalars.{anyone, variable, root, user, sortNumber, sortOf}
+use Rattle.paper.specs.Lists.{bracketed, inside, spaced, unspaced, elementsIn, elements}
+use Rattle.paper.specs.Rules.{earlier}
+use Rattle.laws.proofs.Places.{drop-more}
+use Rattle.file_fields.specs.Fields.{listSpaced}
+use Rattle.file_fields.specs.Values.{insideOf, commas}
+
+-- ---- the sort
+
+module _ (v : List ℕ) (a : Bool) (p : a ≡ is "all" v) where
+  pub says-all : a ≡ true → 0 ≡ sortNumber (sortOf v)
+  unfolding sortOf sortNumber
+  says-all h = rw (← p, h) refl
+
+  module _ (h : a ≡ false) (b : Bool) (q : b ≡ is "root" v) where
+    pub says-root : b ≡ true → 2 ≡ sortNumber (sortOf v)
+    unfolding sortOf sortNumber
+    says-root k = rw (← p, h, ← q, k) refl
+
+    module _ (k : b ≡ false) (d : Bool) (r : d ≡ is "user" v) where
+      pub says-user : d ≡ true → 3 ≡ sortNumber (sortOf v)
+      unfolding sortOf sortNumber
+      says-user m = rw (← p, h, ← q, k, ← r, m) refl
+
+      pub says-variable : d ≡ false → 1 ≡ sortNumber (sortOf v)
+      unfolding sortOf sortNumber
+      says-variable m = rw (← p, h, ← q, k, ← r, m) refl
+
+-- ---- the elements
+
+module _ (v : List ℕ) (b : Bool) (e : b ≡ bracketed v) where
+  pub inside-list : b ≡ true → take (length v - 1 - 1) (drop 1 v) ≡ insideOf v
+  unfolding insideOf
+  inside-list h = let q : length v - 1 - 1 ≡ length v - 2 = omega arith in rw (← e, h, q) refl
+
+  pub inside-none : b ≡ false → take 0 v ≡ insideOf v
+  unfolding insideOf
+  inside-none h = rw (← e, h) refl
+
+module _ (v : List ℕ) where
+  pub inside-elements : elementsIn (insideOf v) ≡ elements v
+  unfolding insideOf elements elementsIn
+  inside-elements = go (bracketed v)
+    where
+      go : (b : Bool) → cond (isEmpty (cond b (inside v) [])) [] (map unspaced (cut comma (cond b (inside v) []))) ≡ cond b (elementsIn (inside v)) []
+      go true = refl
+      go false = refl
+
+  pub inside-spaced : listSpaced v ≡ true → spaced 0 (insideOf v) ≡ true
+  unfolding insideOf listSpaced spaced
+  inside-spaced h = go (bracketed v) h
+    where
+      go : (b : Bool) → (not b || spaced 0 (inside v)) ≡ true → spaced 0 (cond b (inside v) []) ≡ true
+      go true k = k
+      go false k = refl
+
+  pub inside-short : length (insideOf v) ≤ length v
+  unfolding insideOf
+  inside-short = go (bracketed v)
+    where
+      go : (b : Bool) → length (cond b (inside v) []) ≤ length v
+      go true = rw length-take (omega (arith, length-drop 1 v))
+      go false = omega arith
+
+pieces-counted : (s : List ℕ) → length (cut comma s) ≡ commas s + 1
+unfolding cut commas onPiece
+pieces-counted [] = refl
+pieces-counted (b ∷ bs) = go (eqb b comma) (cut comma bs) (pieces-counted bs)
+  where
+    go : (t : Bool) (ps : List (List ℕ)) → length ps ≡ commas bs + 1 → length (cond t ([] ∷ ps) (onPiece b ps)) ≡ cond t 1 0 + commas bs + 1
+    go true ps ih = omega arith
+    go false [] ih = absurd (omega arith)
+    go false (p ∷ ps) ih = omega arith
+
+module _ (s : List ℕ) (i count : ℕ) where
+  pub commas-more : (one : ℕ) (b : Bool) → i < length s → b ≡ eqb (getD s i 0) comma → one ≡ cond b 1 0 → count + commas (drop i s) ≡ commas s → count + one + commas (drop (i + 1) s) ≡ commas s
+  unfolding commas
+  commas-more one b h e f inv =
+      let q : count + (cond (eqb (getD s i 0) comma) 1 0 + commas (drop (i + 1) s)) ≡ commas s = rw (drop-more s i h) at inv in
+      rw (f, e) (omega (arith, q))
+
+  pub commas-done : length s ≤ i → count + commas (drop i s) ≡ commas s → count ≡ commas s
+  unfolding commas
+  commas-done h inv = let q : count + 0 ≡ commas s = rw (drop-of-length-le s h) at inv in omega (arith, q)
+
+pub one-if-little : (b : Bool) (one : ℕ) → one ≡ cond b 1 0 → one ≤ 1
+one-if-little true one e = omega arith
+one-if-little false one e = omega arith
+
+module _ (i count one n : ℕ) (b : Bool) (e : one ≡ cond b 1 0) (low : count ≤ i) where
+  pub count-keeps-low : count + one ≤ i + 1
+  count-keeps-low = omega (arith, one-if-little b one e)
+
+  pub commas-fit : n * 1 < 2 ^ 63 → i < n → Fits w64 (count + one)
+  commas-fit l h = omega (arith, one-if-little b one e)
+
+module _ (v s : List ℕ) (e : s ≡ insideOf v) where
+  elements-counted : length (elements v) ≡ cond (isEmpty s) 0 (commas s + 1)
+  unfolding elementsIn
+  elements-counted = ap length (sym (inside-elements v)) ∙ rw (← e) (go (isEmpty s))
+    where
+      go : (b : Bool) → length (cond b [] (map unspaced (cut comma s))) ≡ cond b 0 (commas s + 1)
+      go true = refl
+      go false = length-map (cut comma s) unspaced ∙ pieces-counted s
+
+  pub no-elements : length s ≡ 0 → 0 ≡ length (elements v)
+  no-elements h = sym (elements-counted ∙ rw (eq-eqb (length s) 0 h) refl)
+
+  pub some-elements : (n : ℕ) → (length s ≡ 0 → ⊥) → n ≡ commas s → n + 1 ≡ length (elements v)
+  some-elements n h q = sym (elements-counted ∙ rw (ne-eqb (length s) 0 h, q) refl)
+
+  pub few-elements : (n : ℕ) → n ≤ length s → n + 1 ≤ length v + 1
+  few-elements n h = let q : length s ≤ length v = rw e (inside-short v) in omega arith
+
+  pub elements-fit : (n : ℕ) → n ≤ length s → length v * 1 < 2 ^ 63 → Fits w64 (n + 1)
+  elements-fit n h l = let q : length s ≤ length v = rw e (inside-short v) in omega arith
+
+-- ---- the smaller of two lines
+
+module _ (a b : ℕ) where
+  pub earlier-second : a ≡ 0 → b ≡ earlier a b
+  unfolding earlier
+  earlier-second h = rw (eq-eqb a 0 h) refl
+
+  module _ (n : a ≡ 0 → ⊥) where
+    pub earlier-first : b ≡ 0 → a ≡ earlier a b
+    unfolding earlier
+    earlier-first h = rw (ne-eqb a 0 n, eq-eqb b 0 h) refl
+
+    module _ (m : b ≡ 0 → ⊥) where
+      pub earlier-less : a < b → a ≡ earlier a b
+      unfolding earlier
+      earlier-less h = rw (ne-eqb a 0 n, ne-eqb b 0 m, lt-ltb a b h) refl
+
+      pub earlier-not : b ≤ a → b ≡ earlier a b
+      unfolding earlier
+      earlier-not h = rw (ne-eqb a 0 n, ne-eqb b 0 m, le-ltb a b h) refl

@@ -1,0 +1,96 @@
+// What a field's value holds: `all`, the elements of a list, the sort of a uid or gid.
+use text_bytes::byte;
+ghost use mathlib.Core.Path.{_≡_};
+ghost use mathlib.Core.Bool.{cond};
+ghost use Prim.Native.Nat.{_+_, _≤_};
+ghost use lib.ListN.{length};
+ghost use Rattle.paper.specs.Common.{is};
+ghost use Rattle.paper.specs.Scalars.{sortNumber, sortOf};
+ghost use Rattle.paper.specs.Lists.{elements};
+ghost use Rattle.file_fields.specs.Values.{commas, insideOf};
+
+// The sorts, as they stand in the table.
+pub const ANYONE: u16 = 0;
+
+pub const VARIABLE: u16 = 1;
+
+pub const ROOT: u16 = 2;
+
+pub const USER: u16 = 3;
+
+pub fn is_all(v: &[u8]) -> bool
+    ensures { λ r. ⌜ r ≡ is "all" (now (v .entry)) ⌝ }
+{
+    text_bytes::same(b"all", v)
+}
+
+fn is_root(v: &[u8]) -> bool
+    ensures { λ r. ⌜ r ≡ is "root" (now (v .entry)) ⌝ }
+{
+    text_bytes::same(b"root", v)
+}
+
+fn is_user(v: &[u8]) -> bool
+    ensures { λ r. ⌜ r ≡ is "user" (now (v .entry)) ⌝ }
+{
+    text_bytes::same(b"user", v)
+}
+
+// The number of the sort that a value says.
+pub fn sort_of(v: &[u8]) -> u16
+    ensures { λ r. ⌜ r ≡ sortNumber (sortOf (now (v .entry))) ⌝ }
+{
+    if is_all(v) {
+        return ANYONE;
+    }
+    if is_root(v) {
+        return ROOT;
+    }
+    if is_user(v) {
+        return USER;
+    }
+    VARIABLE
+}
+
+// What stands between the brackets of a list; of any other value, nothing.
+pub fn inside(v: &[u8]) -> &[u8]
+    ensures { λ r. ⌜ now r ≡ insideOf (now (v .entry)) ⌝ }
+{
+    if text_lists::bracketed(v) {
+        let last = v.len() - 1;
+        return &v[1..last];
+    }
+    &v[..0]
+}
+
+fn one_if(b: bool) -> usize
+    ensures { λ r. ⌜ r ≡ cond b 1 0 ⌝ }
+{
+    if b {
+        return 1;
+    }
+    0
+}
+
+fn comma_count(s: &[u8]) -> usize
+    ensures { λ r. ⌜ (r ≡ commas (now (s .entry))) × (r ≤ length (now (s .entry))) ⌝ }
+{
+    let mut count: usize = 0;
+    let mut i: usize = 0;
+    while i < s.len() {
+        count += one_if(s[i] == byte::COMMA);
+        i += 1;
+    }
+    count
+}
+
+// How many elements a list has.
+pub fn element_count(v: &[u8]) -> usize
+    ensures { λ r. ⌜ (r ≡ length (elements (now (v .entry)))) × (r ≤ length (now (v .entry)) + 1) ⌝ }
+{
+    let s = inside(v);
+    if s.len() == 0 {
+        return 0;
+    }
+    comma_count(s) + 1
+}

@@ -1,0 +1,3 @@
+pub mod Words
+pub mod Buckets
+pub mod Maps

@@ -1,0 +1,11 @@
+-- The three places.
+use Rattle.file_limits.proofs.Laws.{one-of-three}
+use borrow.Author.Needs.{needs}
+use Rattle.file_limits.proofs.is_call_context.Statement.{statement}
+use Rattle.file_limits.proofs.is_call_context.Tie as tie
+
+returns : tie.Need-returns
+returns c = search (needs, one-of-three)
+
+pub is-call-context-spec : {M : Type 1} → statement M
+is-call-context-spec = tie.close (tie.spec returns)

@@ -1,0 +1,66 @@
+-- The smallest of four lines is that of 7; where there is none, the maps are indexed and no name stands in one twice.
+use Rattle.file_names.proofs.Mapped.{went-room, twice-told, maps-told, distinct-told}
+use borrow.Author.Needs.{needs}
+use Rattle.file_names.proofs.index_names.Statement.{statement}
+use Rattle.file_names.proofs.index_names.Tie as tie
+
+domains-line-requires : tie.Need-domains-line-requires
+domains-line-requires c κs = search needs
+
+objects-line-requires : tie.Need-objects-line-requires
+objects-line-requires c κs = search needs
+
+index-maps-requires : tie.Need-index-maps-requires
+index-maps-requires c κs = search needs
+
+lists-line-requires : tie.Need-lists-line-requires
+lists-line-requires c κs =
+    let pre = c .before .before .before .before .before .before .before .before .before .before .before .before .before .before .before .before .before .before .before .pre in
+    let maps = c .before .before .before .before .before .before .before .before .index-maps .ensures in
+    (pre .0, went-room _ _ _ _ _ _ _ _ (maps .0) (pre .1 .1 .0) (pre .1 .1 .1 .0) (maps .1 .0) (maps .1 .1))
+
+earlier-requires : tie.Need-earlier-requires
+earlier-requires c κs = search needs
+
+earlier-requires-2 : tie.Need-earlier-requires-2
+earlier-requires-2 c κs = search needs
+
+earlier-requires-3 : tie.Need-earlier-requires-3
+earlier-requires-3 c κs = search needs
+
+same-length : tie.Need-same-length
+same-length c = search needs
+
+same-length-2 : tie.Need-same-length-2
+same-length-2 c = search needs
+
+same-length-3 : tie.Need-same-length-3
+same-length-3 c = search needs
+
+returns : tie.Need-returns
+returns c =
+    let pre = c .before .before .before .before .before .before .before .before .before .before .before .before .before .before .before .before .before .before .before .before .before .before .before .pre in
+    let domains = c .before .before .before .before .before .before .before .before .before .before .before .before .before .before .before .before .before .domains-line .ensures in
+    let objects = c .before .before .before .before .before .before .before .before .before .before .before .before .before .before .before .before .objects-line .ensures in
+    let maps = c .before .before .before .before .before .before .before .before .before .before .before .before .index-maps .ensures in
+    let lists = c .before .before .before .lists-line .ensures in
+    let first = c .before .before .earlier .ensures in
+    let second = c .before .earlier2 .ensures in
+    let third = c .earlier3 .ensures in
+    (twice-told _ _ _ (pre .0) (pre .1 .0) _ _ _ _ _ _ _ domains objects (maps .0 .line) lists first second third, (maps-told _ _ _ (pre .0) (pre .1 .0) _ _ _ _ _ _ _ domains objects (maps .0 .line) lists first second third _ _ _ _ (maps .0), distinct-told _ _ _ (pre .0) (pre .1 .0) _ _ _ _ _ _ _ domains objects (maps .0 .line) lists first second third))
+
+pub index-names-spec : {M : Type 1} → statement M
+index-names-spec =
+    tie.close
+    (tie.spec
+    domains-line-requires
+    objects-line-requires
+    index-maps-requires
+    lists-line-requires
+    earlier-requires
+    earlier-requires-2
+    earlier-requires-3
+    same-length
+    same-length-2
+    same-length-3
+    returns)

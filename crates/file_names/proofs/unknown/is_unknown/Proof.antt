@@ -1,0 +1,83 @@
+-- By what the place asks for.
+use Rattle.file_names.proofs.Scanned.{field-spaced}
+use Rattle.file_names.proofs.Looked.{asks-subject, asks-subjects, asks-objects, asks-functions, asks-nothing}
+use borrow.Author.Needs.{needs}
+use Rattle.file_names.proofs.unknown.is_unknown.Statement.{statement}
+use Rattle.file_names.proofs.unknown.is_unknown.Tie as tie
+
+value-of-requires : tie.Need-value-of-requires
+value-of-requires c κs = search needs
+
+inside-requires : tie.Need-inside-requires
+inside-requires c κs = search needs
+
+place-of-requires : tie.Need-place-of-requires
+place-of-requires c κs = search needs
+
+sought-at-requires : tie.Need-sought-at-requires
+sought-at-requires c κs = search needs
+
+enum-told : tie.Need-enum-told
+enum-told c = search needs
+
+is-known-requires : tie.Need-is-known-requires
+is-known-requires c κs = search needs
+
+enum-told-2 : tie.Need-enum-told-2
+enum-told-2 c = search needs
+
+all-known-requires : tie.Need-all-known-requires
+all-known-requires c κs = search (needs, field-spaced)
+
+enum-told-3 : tie.Need-enum-told-3
+enum-told-3 c = search needs
+
+all-known-requires-2 : tie.Need-all-known-requires-2
+all-known-requires-2 c κs = search (needs, field-spaced)
+
+enum-told-4 : tie.Need-enum-told-4
+enum-told-4 c = search needs
+
+all-known-requires-3 : tie.Need-all-known-requires-3
+all-known-requires-3 c κs = search (needs, field-spaced)
+
+enum-told-5 : tie.Need-enum-told-5
+enum-told-5 c = search needs
+
+returns : tie.Need-returns
+returns c = search (needs, asks-subject)
+
+returns-2 : tie.Need-returns-2
+returns-2 c = search (needs, asks-subjects)
+
+returns-3 : tie.Need-returns-3
+returns-3 c = search (needs, asks-objects)
+
+returns-4 : tie.Need-returns-4
+returns-4 c = search (needs, asks-functions)
+
+returns-5 : tie.Need-returns-5
+returns-5 c = search (needs, asks-nothing)
+
+pub is-unknown-spec : {M : Type 1} → statement M
+is-unknown-spec =
+    tie.close
+    (tie.spec
+    value-of-requires
+    inside-requires
+    place-of-requires
+    sought-at-requires
+    enum-told
+    is-known-requires
+    enum-told-2
+    all-known-requires
+    enum-told-3
+    all-known-requires-2
+    enum-told-4
+    all-known-requires-3
+    enum-told-5
+    returns
+    returns-2
+    returns-3
+    returns-4
+    returns-5)

@@ -1,0 +1,9 @@
+pub mod Writing
+pub mod Domains
+pub mod Walking
+pub mod Fitting
+pub mod Entered
+pub mod Described
+pub mod Accessed
+pub mod Laying
+pub mod Whole

@@ -1,0 +1,131 @@
+-- The policy looks at places and values only: lines and starts aside, the same fields give the same policy.
+use mathlib.Core.Path.{_≡_, refl, sym, ap, _∙_}
+use mathlib.Core.List.{List, [], _∷_, map, flatMap}
+use mathlib.Core.Bool.{Bool, true, false, cond}
+use Prim.Native.Nat.{ℕ, _+_}
+use Rattle.paper.specs.Common.{is}
+use Rattle.paper.specs.Lists.{elements}
+use Rattle.paper.specs.Listing.{objectName, objectMembers, subjectName, subjectMembers, subjectOfEntry, executionContext, canCall, canReturn, canRead, canWrite, callContextIn, uidIn, gidIn, objectsIn, objectContextIn}
+use Rattle.paper.specs.Page.{Field}
+use Rattle.paper.specs.Entries.{isAt, meant, valueAt, fieldsAt, upToNext, stretchesFrom, entriesOf, itemsOf}
+use Rattle.paper.specs.Rules.{domainsAt, identifiersAt}
+use Rattle.paper.specs.Policy.{Descriptor, contextOf, descriptorOf, accessOf, entryOf, memberDomains, policyOf}
+use Rattle.laws_filled.specs.Fields.{unwritten, numbered}
+
+-- a field without its line and start
+unfoldable pub says : Field → Field
+says f = unwritten (f .place) (f .value)
+
+pub numbered-says : (n at : ℕ) (fs : List Field) → map says (numbered n at fs) ≡ map says fs
+unfolding numbered says unwritten
+numbered-says n at [] = refl
+numbered-says n at (f ∷ fs) = rw (numbered-says (n + 1) _ fs) refl
+
+pub map-same : {A B C : Type 0} (h : A → B) (g : B → C) (f : A → C) → ((x : A) → g (h x) ≡ f x) → (xs : List A) → map g (map h xs) ≡ map f xs
+map-same h g f e [] = refl
+map-same h g f e (x ∷ xs) = rw (e x, map-same h g f e xs) refl
+
+-- ---- what the definitions look at
+
+module _ (p : ℕ) where
+  pub value-says : (fs : List Field) → valueAt p (map says fs) ≡ valueAt p fs
+  unfolding valueAt meant says unwritten
+  value-says [] = refl
+  value-says (f ∷ fs) = rw (value-says fs) refl
+
+  fields-say : (fs : List Field) → fieldsAt p (map says fs) ≡ map says (fieldsAt p fs)
+  unfolding fieldsAt says unwritten
+  fields-say [] = refl
+  fields-say (f ∷ fs) = go (isAt p f) (fields-say fs)
+    where
+      go : (t : Bool) → fieldsAt p (map says fs) ≡ map says (fieldsAt p fs) → cond t (says f ∷ fieldsAt p (map says fs)) (fieldsAt p (map says fs)) ≡ map says (cond t (f ∷ fieldsAt p fs) (fieldsAt p fs))
+      go true e = rw e refl
+      go false e = e
+
+  pub next-says : (fs : List Field) → upToNext p (map says fs) ≡ map says (upToNext p fs)
+  unfolding upToNext says unwritten
+  next-says [] = refl
+  next-says (f ∷ fs) = go (isAt p f) (next-says fs)
+    where
+      go : (t : Bool) → upToNext p (map says fs) ≡ map says (upToNext p fs) → cond t [] (says f ∷ upToNext p (map says fs)) ≡ map says (cond t [] (f ∷ upToNext p fs))
+      go true e = refl
+      go false e = rw e refl
+
+  pub stretches-say : (fs : List Field) → stretchesFrom p (map says fs) ≡ map (map says) (stretchesFrom p fs)
+  unfolding stretchesFrom says unwritten
+  stretches-say [] = refl
+  stretches-say (f ∷ fs) = go (isAt p f) (next-says fs) (stretches-say fs)
+    where
+      go : (t : Bool) → upToNext p (map says fs) ≡ map says (upToNext p fs) → stretchesFrom p (map says fs) ≡ map (map says) (stretchesFrom p fs)
+          → cond t ((says f ∷ upToNext p (map says fs)) ∷ stretchesFrom p (map says fs)) (stretchesFrom p (map says fs)) ≡ map (map says) (cond t ((f ∷ upToNext p fs) ∷ stretchesFrom p fs) (stretchesFrom p fs))
+      go true d e = rw (d, e) refl
+      go false d e = e
+
+  pub domains-say : (fs : List Field) → domainsAt p (map says fs) ≡ domainsAt p fs
+  unfolding domainsAt says unwritten
+  domains-say fs = rw (fields-say fs) (map-same says (λ f. f .value) (λ f. f .value) (λ f. refl) (fieldsAt p fs))
+
+  members-say : (d : ℕ) (fs : List Field) → memberDomains d (map says fs) ≡ memberDomains d fs
+  unfolding memberDomains says unwritten
+  members-say d [] = refl
+  members-say d (f ∷ fs) = rw (members-say (d + 1) fs) refl
+
+  member-domains-say : (fs : List Field) → memberDomains 0 (fieldsAt p (map says fs)) ≡ memberDomains 0 (fieldsAt p fs)
+  member-domains-say fs = rw (fields-say fs) (members-say 0 (fieldsAt p fs))
+
+  flat-says : (fs : List Field) → flatMap (λ f. elements (f .value)) (map says fs) ≡ flatMap (λ f. elements (f .value)) fs
+  unfolding flatMap says unwritten
+  flat-says [] = refl
+  flat-says (f ∷ fs) = rw (flat-says fs) refl
+
+  pub identifiers-say : (fs : List Field) → identifiersAt p (map says fs) ≡ identifiersAt p fs
+  unfolding identifiersAt
+  identifiers-say fs = rw (fields-say fs) (flat-says (fieldsAt p fs))
+
+-- ---- the policy
+
+context-says : (functions : List (List ℕ)) (place : ℕ) (fs : List Field) → contextOf functions place (map says fs) ≡ contextOf functions place fs
+unfolding contextOf
+context-says functions place fs = rw (value-says (callContextIn place) fs, value-says (uidIn place) fs, value-says (gidIn place) fs) refl
+
+module _ (file : List Field) where
+  descriptor-says : (a : ℕ) (item : List Field) → descriptorOf (map says file) a (map says item) ≡ descriptorOf file a item
+  unfolding descriptorOf
+  descriptor-says a item =
+      rw (identifiers-say subjectMembers file, domains-say objectName file, context-says (identifiersAt subjectMembers file) (objectContextIn a) item, value-says (objectsIn a) item) refl
+
+  access-says : (a : ℕ) (e : List Field) → accessOf (map says file) a (map says e) ≡ accessOf file a e
+  unfolding accessOf itemsOf
+  access-says a e =
+      rw (value-says a e, stretches-say (objectsIn a) e, map-same (map says) (descriptorOf (map says file) a) (descriptorOf file a) (descriptor-says a) (stretchesFrom (objectsIn a) e))
+      (ap (λ (d : Descriptor). cond (is "all" (valueAt a e)) (d ∷ []) (map (descriptorOf file a) (stretchesFrom (objectsIn a) e))) (descriptor-says a []))
+
+  entry-says : (e : List Field) → entryOf (map says file) (map says e) ≡ entryOf file e
+  unfolding entryOf
+  entry-says e =
+      rw (
+        identifiers-say subjectMembers file,
+        domains-say subjectName file,
+        context-says (identifiersAt subjectMembers file) executionContext e,
+        value-says subjectOfEntry e,
+        value-says canCall e,
+        value-says canReturn e,
+        access-says canRead e,
+        access-says canWrite e,
+      ) refl
+
+  policy-says : policyOf (map says file) ≡ policyOf file
+  unfolding policyOf entriesOf
+  policy-says =
+      rw (
+        domains-say objectName file,
+        domains-say subjectName file,
+        member-domains-say objectMembers file,
+        member-domains-say subjectMembers file,
+        stretches-say 8 file,
+        map-same (map says) (entryOf (map says file)) (entryOf file) entry-says (stretchesFrom 8 file),
+      ) refl
+
+-- the numbers of the lines do not count
+pub numbered-policy : (n at : ℕ) (fs : List Field) → policyOf (numbered n at fs) ≡ policyOf fs
+numbered-policy n at fs = sym (policy-says (numbered n at fs)) ∙ ap policyOf (numbered-says n at fs) ∙ policy-says fs

@@ -1,0 +1,200 @@
+//! `bench`: how long the plain program and the proved one take for a text, a
+//! report and an event.
+//!
+//! Both read the same large texts. Both judge the same events under the same
+//! table, which has 128 entries and 256 descriptors, and report on a table of
+//! 128 full patterns of one subject with no clash. The proved one is timed
+//! inside the bridge, so that no pipe is measured.
+#![forbid(unsafe_code)]
+
+mod reader;
+mod timing;
+
+use cases::events::OwnEvent;
+use cases::{full, Dice};
+use compare::wire::{Call, Function, Requests};
+use compare::{judge, Bridge};
+use second::judge::judge_policy;
+use second::{decode, encode, Verdict, WITNESS_WORDS};
+use std::hint::black_box;
+use std::process::ExitCode;
+use timing::{exchange, row, Bench, Calls, LEAST_RUNS};
+
+const USAGE: &str = "usage: bench [--events N] [--runs N] [--seed N] [--bridge COMMAND]";
+
+/// One event in so many is judged with a test of the table, which takes long.
+const TESTED_SHARE: usize = 100;
+
+/// The slot of the table that events are judged under.
+const TABLE: u32 = 0;
+
+struct Asked {
+    events: usize,
+    runs: u64,
+    seed: u64,
+    bridge: Option<String>,
+}
+
+impl Asked {
+    fn of(arguments: &[String]) -> Option<Asked> {
+        let mut asked = Asked {
+            events: 100_000,
+            runs: 200,
+            seed: 1,
+            bridge: None,
+        };
+        for pair in arguments.chunks(2) {
+            let [name, value] = pair else { return None };
+            match name.as_str() {
+                "--events" => asked.events = value.parse().ok()?,
+                "--runs" => asked.runs = value.parse().ok()?,
+                "--seed" => asked.seed = value.parse().ok()?,
+                "--bridge" => asked.bridge = Some(value.clone()),
+                _ => return None,
+            }
+        }
+        Some(asked)
+    }
+}
+
+fn main() -> ExitCode {
+    let arguments: Vec<String> = std::env::args().skip(1).collect();
+    let Some(asked) = Asked::of(&arguments) else {
+        eprintln!("{USAGE}");
+        return ExitCode::from(2);
+    };
+    match bench(&asked) {
+        Ok(()) => ExitCode::SUCCESS,
+        Err(fault) => {
+            eprintln!("{fault}");
+            ExitCode::FAILURE
+        }
+    }
+}
+
+fn bench(asked: &Asked) -> Result<(), String> {
+    let mut bench = Bench {
+        bridge: Bridge::start(compare::bridge::command(asked.bridge.as_deref()))?,
+        most_runs: asked.runs,
+    };
+    say_how(&bench);
+    reader::rows(&mut bench)?;
+    let mut dice = Dice::new(asked.seed);
+    let words = encode(&full::policy(&mut dice)).ok_or("no table")?;
+    let mut lent = Requests::default();
+    lent.lend(TABLE, &words);
+    exchange(&mut bench.bridge, lent)?;
+    table_test(&mut bench, &words)?;
+    report(&mut bench)?;
+    for (stacks, least, most) in [("1 to 8 frames", 1, 8), ("64 frames", 64, 64)] {
+        let one = |_| {
+            let frames = dice.from_to(least, most);
+            full::event(&mut dice, frames)
+        };
+        let events: Vec<OwnEvent> = (0..asked.events).map(one).collect();
+        judging(&mut bench, &words, &events, stacks)?;
+    }
+    Ok(())
+}
+
+fn say_how(bench: &Bench) {
+    let proved = match bench.bridge.emulated {
+        true => "UNDER AN EMULATOR: its figures say nothing about speed",
+        false => "natively",
+    };
+    let plain = match cfg!(debug_assertions) {
+        true => "natively, SLOWED BY CHECKS: build it with --profile speed",
+        false => "natively",
+    };
+    println!("machine: {}", std::env::consts::ARCH);
+    println!("the plain program runs {plain}");
+    println!("the proved program runs {proved}");
+    let most = bench.most_runs;
+    println!("microseconds for one call, the smallest of {LEAST_RUNS} to {most} runs");
+}
+
+fn table_test(bench: &mut Bench, words: &[u16]) -> Result<(), String> {
+    let calls = Calls {
+        name: "the table test".to_string(),
+        function: Function::WellFormed,
+        all: &[Call::new(Function::WellFormed, &[TABLE], &[])],
+    };
+    row(bench, &calls, || {
+        second::well_formed(black_box(words)).into()
+    })
+}
+
+/// The overlap report of a table without a clash.
+fn report(bench: &mut Bench) -> Result<(), String> {
+    let words = encode(&full::clear_policy()).ok_or("no table")?;
+    let mut lent = Requests::default();
+    lent.lend(1, &words);
+    lent.lend(2, &[0u16; WITNESS_WORDS]);
+    exchange(&mut bench.bridge, lent)?;
+    let calls = Calls {
+        name: "the report, no clash".to_string(),
+        function: Function::Overlap,
+        all: &[Call::new(Function::Overlap, &[1, 2], &[])],
+    };
+    row(bench, &calls, || {
+        let report = second::overlap(black_box(&words), &mut [0; WITNESS_WORDS]);
+        report.answer().packed()
+    })
+}
+
+/// These events, and a share of them with a test of the table at each.
+fn judging(
+    bench: &mut Bench,
+    words: &[u16],
+    events: &[OwnEvent],
+    stacks: &str,
+) -> Result<(), String> {
+    let policy = decode(words).ok_or("no policy")?;
+    exchange(&mut bench.bridge, lend(events))?;
+    let known = |e: &OwnEvent| judge_policy(&policy, e.operation, e.target, &e.lent());
+    let calls = Calls {
+        name: format!("{stacks}, no table test"),
+        function: Function::JudgeKnown,
+        all: &calls(Function::JudgeKnown, events),
+    };
+    row(bench, &calls, || sum(events, known))?;
+
+    let events = &events[..events.len().div_ceil(TESTED_SHARE)];
+    let tested = |e: &OwnEvent| second::judge(words, e.operation, e.target, &e.lent());
+    let calls = Calls {
+        name: format!("{stacks}, table test each"),
+        function: Function::Judge,
+        all: &self::calls(Function::Judge, events),
+    };
+    row(bench, &calls, || sum(events, tested))
+}
+
+/// The sum of all answers.
+fn sum(events: &[OwnEvent], judge: impl Fn(&OwnEvent) -> Verdict) -> u64 {
+    let one = |event| judge(black_box(event)).answer().packed();
+    events.iter().map(one).sum()
+}
+
+/// The slots of an event's stack and allocation stack.
+fn slots(event: usize) -> [u32; 2] {
+    [2 * event as u32 + 1, 2 * event as u32 + 2]
+}
+
+fn lend(events: &[OwnEvent]) -> Requests {
+    let mut requests = Requests::default();
+    for (place, event) in events.iter().enumerate() {
+        let [stack, allocation] = slots(place);
+        requests.lend(stack, &event.stack);
+        requests.lend(allocation, &event.allocation);
+    }
+    requests
+}
+
+/// The calls that judge these events, lent as above.
+fn calls(function: Function, events: &[OwnEvent]) -> Vec<Call> {
+    let call = |(place, event)| {
+        let [stack, allocation] = slots(place);
+        judge::call(function, event, [TABLE, stack, allocation])
+    };
+    events.iter().enumerate().map(call).collect()
+}

@@ -1,0 +1,57 @@
+//! `read`: a text to its table, or to the refusal of it.
+
+use crate::case::Check;
+use crate::options::Options;
+use crate::page::{outcome, told};
+use crate::show;
+use crate::wire::{Call, Function, Replies, Requests};
+use cases::{texts, Dice};
+use second::{Answer, Refusal, TABLE_WORDS};
+
+const TEXT: u32 = 0;
+const TABLE: u32 = 1;
+
+/// A text, and a table that holds anything but zeros before the call.
+pub fn ask(case: u64, dice: &mut Dice, _: &Options, requests: &mut Requests) -> Check {
+    let (text, room) = match texts::first(case) {
+        Some(text) => (text, TABLE_WORDS + 1),
+        None => (texts::text(dice), room(dice)),
+    };
+    let before: Vec<u16> = (0..room).map(|_| dice.next() as u16 | 1).collect();
+    requests.lend(TEXT, &text);
+    requests.lend(TABLE, &before);
+    requests.call(&Call::new(Function::Read, &[TEXT, TABLE], &[]));
+    requests.show(TABLE);
+    requests.show(TEXT);
+    Box::new(move |replies, mix| {
+        let mut expected = before;
+        let plain = Refusal::answer(second::read(&text, &mut expected).err());
+        check(&text, &expected, plain, replies).map_err(|fault| {
+            let room = format!("table of {room} words");
+            show::difference(&[show::text(&text), room], fault)
+        })?;
+        mix.count(outcome(plain));
+        Ok(())
+    })
+}
+
+/// How many words are lent: mostly enough.
+fn room(dice: &mut Dice) -> usize {
+    let enough = *dice.pick(&[0, 0, 0, 1, 8, 100]);
+    match dice.below(40) {
+        0 => *dice.pick(&[0, 1, TABLE_WORDS / 2]),
+        1 => TABLE_WORDS - 1,
+        _ => TABLE_WORDS + enough,
+    }
+}
+
+fn check(
+    text: &[u8],
+    expected: &[u16],
+    plain: Answer,
+    replies: &mut Replies<'_>,
+) -> Result<(), String> {
+    show::equal(told(replies.answer()?), told(plain))?;
+    replies.shown()?.check("table", expected)?;
+    replies.shown()?.check("text", text)
+}

@@ -1,0 +1,375 @@
+//! The reader once more, as it is written for speed: one pass over the text,
+//! names found in hash maps, every value put into its words at once.
+//!
+//! It takes good texts alone. Any other it leaves to `reader::read`, which
+//! knows the number and the line. `bench` holds the proved reader beside it.
+
+use crate::lookup::Map;
+use crate::policy::{DESCRIPTORS, DOMAINS, ELEMENTS, ENTRIES, MEMBERS};
+use crate::reader;
+use crate::refusal::Refusal;
+use crate::scalars;
+use crate::table::{
+    CALL_AT, DESCRIPTORS_AT, DESCRIPTOR_GRANT_AT, DESCRIPTOR_WORDS, ENTRIES_AT, ENTRY_WORDS,
+    FUNCTIONS_AT, MARK, OBJECTS_AT, PATTERN_AT, READS_AT, RETURN_AT, SUBJECT_AT, TABLE_WORDS,
+    WRITES_AT,
+};
+use crate::text::TEXT_LIMIT;
+use std::collections::{HashMap, HashSet};
+
+/// Writes the table of a text and answers as `reader::read` does.
+pub fn read(text: &[u8], table: &mut [u16]) -> Result<(), Refusal> {
+    if let Some(words) = table.get_mut(..TABLE_WORDS) {
+        words.fill(0);
+        if takes(text, words) {
+            return Ok(());
+        }
+    }
+    reader::read(text, table)
+}
+
+/// Whether the reader takes a text. If so, its table stands in the words, zero
+/// before; if not, they hold anything.
+pub fn takes(text: &[u8], words: &mut [u16]) -> bool {
+    let mut pass = Pass {
+        left: text,
+        words,
+        domains: HashMap::new(),
+        objects: HashSet::with_capacity(MEMBERS),
+        functions: HashMap::with_capacity(MEMBERS),
+        principals: HashSet::with_capacity(ENTRIES),
+        descriptors: 0,
+    };
+    text.len() <= TEXT_LIMIT && pass.file().is_some()
+}
+
+/// What two entries must not share: the context and the subject of an entry,
+/// as its first words hold them.
+type Principal = [u16; SUBJECT_AT + 1];
+
+/// The variables that a context has.
+#[derive(Default)]
+struct Variables<'t> {
+    uid: Option<&'t [u8]>,
+    gid: Option<&'t [u8]>,
+}
+
+/// How far the text is read, and what is known by then. Nothing is at fault as
+/// long as every function gives something.
+struct Pass<'t, 'w> {
+    left: &'t [u8],
+    words: &'w mut [u16],
+    /// The domains of both maps, whose names must differ.
+    domains: HashMap<&'t [u8], (Map, u16)>,
+    objects: HashSet<&'t [u8]>,
+    functions: HashMap<&'t [u8], u16>,
+    principals: HashSet<Principal>,
+    descriptors: usize,
+}
+
+impl<'t> Pass<'t, '_> {
+    fn file(&mut self) -> Option<()> {
+        self.skip();
+        let object_domains = self.map(b"object_map", Map::Objects)?;
+        let subject_domains = self.map(b"subject_map", Map::Subjects)?;
+        let entries = self.privileges()?;
+        let (objects, functions) = (self.objects.len(), self.functions.len());
+        let counts = [object_domains, subject_domains, objects, functions, entries];
+        self.words[0] = MARK;
+        for (place, count) in counts.into_iter().enumerate() {
+            self.words[1 + place] = count as u16;
+        }
+        self.left.is_empty().then_some(())
+    }
+
+    // ---- Lines
+
+    /// Goes past lines that do not count. One that has a bad byte or no end
+    /// stays, and nothing takes it.
+    fn skip(&mut self) {
+        loop {
+            let column = self.left.iter().take_while(|&&byte| byte == b' ').count();
+            let end = match self.left.get(column) {
+                Some(b'\n') => column,
+                Some(b'#') => {
+                    let bad = |byte: &u8| !(0x20..=0x7E).contains(byte);
+                    match self.left.iter().position(bad) {
+                        Some(end) if self.left[end] == b'\n' => end,
+                        _ => return,
+                    }
+                }
+                _ => return,
+            };
+            self.left = &self.left[end + 1..];
+        }
+    }
+
+    /// Takes these bytes, if they are next.
+    fn takes(&mut self, bytes: &[u8]) -> bool {
+        match self.left.strip_prefix(bytes) {
+            Some(left) => {
+                self.left = left;
+                true
+            }
+            None => false,
+        }
+    }
+
+    fn take(&mut self, bytes: &[u8]) -> Option<()> {
+        self.takes(bytes).then_some(())
+    }
+
+    /// Takes these bytes and the line's end, if they are next.
+    fn ends(&mut self, bytes: &[u8]) -> bool {
+        let end = bytes.len();
+        let ends = self.left.get(end) == Some(&b'\n') && self.left.starts_with(bytes);
+        if ends {
+            self.next_line(end);
+        }
+        ends
+    }
+
+    fn end(&mut self, bytes: &[u8]) -> Option<()> {
+        self.ends(bytes).then_some(())
+    }
+
+    /// Goes on behind an LF.
+    fn next_line(&mut self, end: usize) {
+        self.left = &self.left[end + 1..];
+        self.skip();
+    }
+
+    /// The rest of the line.
+    fn scalar(&mut self) -> Option<&'t [u8]> {
+        let end = self.left.iter().position(|&byte| byte == b'\n')?;
+        let value = &self.left[..end];
+        self.next_line(end);
+        Some(value)
+    }
+
+    /// The elements of a list, its first bracket taken; then the line's end.
+    fn list(&mut self, mut each: impl FnMut(&mut Self, &'t [u8]) -> Option<()>) -> Option<()> {
+        if self.ends(b"]") {
+            return Some(());
+        }
+        loop {
+            let is_end = |&byte: &u8| byte == b',' || byte == b']';
+            let (element, left) = self.left.split_at(self.left.iter().position(is_end)?);
+            self.left = left;
+            each(self, element)?;
+            match self.left {
+                [b',', b' ', left @ ..] => self.left = left,
+                _ => return self.end(b"]"),
+            }
+        }
+    }
+
+    // ---- Maps
+
+    /// A top-level key: `[]` or items. Tells whether items follow.
+    fn top(&mut self, key: &[u8]) -> Option<bool> {
+        self.take(key)?;
+        if self.ends(b": []") {
+            return Some(false);
+        }
+        self.end(b":")?;
+        self.left.starts_with(b"- ").then_some(true)
+    }
+
+    /// A map; how many domains it has.
+    fn map(&mut self, key: &[u8], map: Map) -> Option<usize> {
+        let mut count = 0;
+        if self.top(key)? {
+            while self.takes(b"- name: ") {
+                let name = self.scalar()?;
+                let is_new = scalars::is_domain_name(name)
+                    && self.domains.insert(name, (map, count as u16)).is_none();
+                if !is_new || count == DOMAINS {
+                    return None;
+                }
+                self.members(map, count as u16)?;
+                count += 1;
+            }
+        }
+        Some(count)
+    }
+
+    fn members(&mut self, map: Map, domain: u16) -> Option<()> {
+        match map {
+            Map::Objects => {
+                self.take(b"  objects: [")?;
+                self.list(|pass, name| pass.object(name, domain))
+            }
+            Map::Subjects => {
+                self.take(b"  subjects: [")?;
+                self.list(|pass, name| pass.function(name, domain))
+            }
+        }
+    }
+
+    fn object(&mut self, name: &'t [u8], domain: u16) -> Option<()> {
+        let number = self.objects.len();
+        let is_new = scalars::is_object_identifier(name) && self.objects.insert(name);
+        if !is_new || number == MEMBERS {
+            return None;
+        }
+        self.words[OBJECTS_AT + number] = domain;
+        Some(())
+    }
+
+    fn function(&mut self, name: &'t [u8], domain: u16) -> Option<()> {
+        let number = self.functions.len();
+        let is_new = scalars::is_subject_identifier(name)
+            && self.functions.insert(name, number as u16).is_none();
+        if !is_new || number == MEMBERS {
+            return None;
+        }
+        self.words[FUNCTIONS_AT + number] = domain;
+        Some(())
+    }
+
+    // ---- Entries
+
+    /// The entries; how many there are.
+    fn privileges(&mut self) -> Option<usize> {
+        let mut count = 0;
+        if self.top(b"privileges")? {
+            while self.ends(b"- principal:") {
+                if count == ENTRIES {
+                    return None;
+                }
+                self.entry(ENTRIES_AT + ENTRY_WORDS * count)?;
+                count += 1;
+            }
+        }
+        Some(count)
+    }
+
+    /// An entry, into its block of words.
+    fn entry(&mut self, at: usize) -> Option<()> {
+        self.take(b"    subject: ")?;
+        let subject = self.scalar()?;
+        self.words[at + SUBJECT_AT] = self.domain(Map::Subjects, subject)?;
+        let variables = self.context(at, b"    execution_context:")?;
+        let block = &self.words[at..=at + SUBJECT_AT];
+        if !self.principals.insert(block.try_into().ok()?) {
+            return None;
+        }
+        self.grant(at + CALL_AT, b"  can_call:", Map::Subjects)?;
+        self.grant(at + RETURN_AT, b"  can_return:", Map::Subjects)?;
+        self.words[at + READS_AT] = self.access(b"  can_read:", &variables)?;
+        self.words[at + WRITES_AT] = self.access(b"  can_write:", &variables)?;
+        Some(())
+    }
+
+    /// The number of a domain that this map has.
+    fn domain(&self, map: Map, name: &[u8]) -> Option<u16> {
+        let (of, number) = *self.domains.get(name)?;
+        (of == map).then_some(number)
+    }
+
+    /// A grant, into its words; omitted it means `all`.
+    fn grant(&mut self, at: usize, key: &[u8], map: Map) -> Option<()> {
+        if !self.takes(key) || self.ends(b" all") {
+            self.words[at] = 1;
+            return Some(());
+        }
+        if self.ends(b"") {
+            return Some(());
+        }
+        self.take(b" [")?;
+        self.list(|pass, name| {
+            let domain = pass.domain(map, name)?;
+            let word = &mut pass.words[at + 1 + usize::from(domain / 16)];
+            let bit = 1 << (domain % 16);
+            let is_new = *word & bit == 0;
+            *word |= bit;
+            is_new.then_some(())
+        })
+    }
+
+    /// A `can_read` or `can_write`; how many descriptors it has.
+    fn access(&mut self, key: &[u8], bound: &Variables<'t>) -> Option<u16> {
+        if !self.takes(key) || self.ends(b" all") {
+            let at = self.descriptor()?;
+            self.words[at] = 1;
+            self.words[at + DESCRIPTOR_GRANT_AT] = 1;
+            return Some(1);
+        }
+        let mut count = 0;
+        if self.ends(b" []") {
+            return Some(count);
+        }
+        self.end(b"")?;
+        while self.left.starts_with(b"  - ") {
+            let at = self.descriptor()?;
+            self.grant(at + DESCRIPTOR_GRANT_AT, b"  - objects:", Map::Objects)?;
+            let used = self.context(at, b"    object_context:")?;
+            let is_bound = (used.uid.is_none() || used.uid == bound.uid)
+                && (used.gid.is_none() || used.gid == bound.gid);
+            if !is_bound {
+                return None;
+            }
+            count += 1;
+        }
+        Some(count)
+    }
+
+    /// The block of the next descriptor.
+    fn descriptor(&mut self) -> Option<usize> {
+        let number = self.descriptors;
+        self.descriptors += 1;
+        (number < DESCRIPTORS).then_some(DESCRIPTORS_AT + DESCRIPTOR_WORDS * number)
+    }
+
+    // ---- Contexts
+
+    /// A context, into its words.
+    fn context(&mut self, at: usize, key: &[u8]) -> Option<Variables<'t>> {
+        let mut variables = Variables::default();
+        self.words[at] = 1;
+        if !self.takes(key) || self.ends(b" all") {
+            return Some(variables);
+        }
+        self.end(b"")?;
+        let start = self.left.len();
+        if self.takes(b"      call_context: [") {
+            self.pattern(at)?;
+        }
+        if self.takes(b"      uid: ") {
+            let value = self.scalar()?;
+            self.words[at + 1] = match value {
+                b"all" => 0,
+                b"root" => 2,
+                b"user" => 3,
+                _ => 1,
+            };
+            variables.uid = Some(value).filter(|_| self.words[at + 1] == 1);
+            scalars::is_uid(value).then_some(())?;
+        }
+        if self.takes(b"      gid: ") {
+            let value = self.scalar()?;
+            self.words[at + 2] = u16::from(value != b"all");
+            variables.gid = Some(value).filter(|_| self.words[at + 2] == 1);
+            scalars::is_gid(value).then_some(())?;
+        }
+        (self.left.len() < start).then_some(variables)
+    }
+
+    fn pattern(&mut self, at: usize) -> Option<()> {
+        let mut count = 0;
+        self.list(|pass, name| {
+            if count == ELEMENTS {
+                return None;
+            }
+            pass.words[at + PATTERN_AT + count] = match name {
+                b"all" => 0,
+                _ => pass.functions.get(name)? + 1,
+            };
+            count += 1;
+            Some(())
+        })?;
+        self.words[at] = count as u16;
+        (count > 0).then_some(())
+    }
+}
