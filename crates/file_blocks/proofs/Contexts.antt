@@ -1,12 +1,9 @@
 -- A context written from its keys' values: word by word, and as the paper has it.
-use mathlib.Core.Path.{_≡_, refl, sym, ap, subst, _∙_}
+use mathlib.Core.Path.{_≡_, refl, sym, ap, _∙_}
 use mathlib.Core.Bool.{Bool, true, false, cond}
-use mathlib.Core.Logic.{inl, inr, ⊎-elim}
 use mathlib.Core.List.{List, [], _∷_, map, append-nil}
 use Prim.Native.Nat.{ℕ, _+_, _-_, _<_, _≤_}
 use native.Mathlib.Omega.{arith}
-use mir.Syntax.{w64}
-use mir.Val.{Fits}
 use lib.Dec.{eqb}
 use lib.ListN.{length, take, drop, set, replicate, length-map, length-set, length-replicate}
 use borrow.Rule.Slice.PartMut.{putMid, same-len-mid}
@@ -14,7 +11,7 @@ use Rattle.paper.specs.Common.{bytes, isEmpty, is, allOf, anyOf, numberIn}
 use Rattle.paper.specs.Limits.{mostElements}
 use Rattle.paper.specs.Scalars.{sortNumber, sortOf}
 use Rattle.paper.specs.Lists.{bracketed, spaced, elementsIn, elements}
-use Rattle.paper.specs.Listing.{executionContext, canCall, canReturn, canRead, canWrite, subjectOfEntry, callContextIn, uidIn, gidIn, objectsIn, objectContextIn}
+use Rattle.paper.specs.Listing.{canRead, canWrite, subjectOfEntry, callContextIn}
 use Rattle.paper.specs.Page.{Field}
 use Rattle.paper.specs.Entries.{isAt, callContexts, defaultAt, meant, valueAt}
 use Rattle.paper.specs.Rules.{descriptorsOf}
@@ -24,83 +21,12 @@ use Rattle.laws.proofs.Tests.{both-left, both-right}
 use Rattle.laws.proofs.Stretches.{length-padded}
 use Rattle.file_fields.specs.Fields.{valueOr, listSpaced, wellSpaced}
 use Rattle.file_fields.specs.Values.{insideOf}
-use Rattle.file_fields.proofs.Between.{value-or}
 use Rattle.file_fields.proofs.Valued.{inside-elements, inside-spaced}
+use Rattle.file_fields.specs.Places.{IsContext}
+use Rattle.file_fields.proofs.Places.{subject-default, pattern-default, uid-default, gid-default, told-value}
 use Rattle.file_index.specs.Buckets.{numbersIn}
-use Rattle.file_blocks.specs.Written.{IsAccess, IsContext, putFrom, wordBy, contextBy, contextAt, countsBy, grantBy}
+use Rattle.file_blocks.specs.Written.{putFrom, wordBy, contextBy, contextAt, countsBy, grantBy}
 use Rattle.file_blocks.proofs.Behind.{words-written}
-
--- ---- the values of the keys
-
-pub call-default : defaultAt canCall ≡ bytes "all"
-unfolding defaultAt callContexts anyOf
-call-default = refl
-
-pub return-default : defaultAt canReturn ≡ bytes "all"
-unfolding defaultAt callContexts anyOf
-return-default = refl
-
-subject-default : defaultAt subjectOfEntry ≡ bytes "all"
-unfolding defaultAt callContexts anyOf
-subject-default = refl
-
-module _ (access : ℕ) (which : IsAccess access) where
-  pub objects-default : defaultAt (objectsIn access) ≡ bytes "all"
-  unfolding defaultAt callContexts anyOf
-  objects-default = ⊎-elim (λ (e : access ≡ canRead). rw e refl) (λ (e : access ≡ canWrite). rw e refl) which
-
-  pub is-object-context : IsContext (objectContextIn access)
-  is-object-context = ⊎-elim (λ (e : access ≡ canRead). inr (inl (ap objectContextIn e))) (λ (e : access ≡ canWrite). inr (inr (ap objectContextIn e))) which
-
-  access-below : access ≤ canWrite
-  access-below = ⊎-elim (λ (e : access ≡ canRead). omega arith) (λ (e : access ≡ canWrite). omega arith) which
-
-  pub objects-fit : Fits w64 (access + 1)
-  objects-fit = omega (arith, access-below)
-
-  pub object-context-fits : Fits w64 (access + 2)
-  object-context-fits = omega (arith, access-below)
-
-pub reads-are : IsAccess canRead
-reads-are = inl refl
-
-pub writes-are : IsAccess canWrite
-writes-are = inr refl
-
-pub is-execution-context : IsContext executionContext
-is-execution-context = inl refl
-
-module _ (place : ℕ) (which : IsContext place) where
-  by-context : (P : ℕ → Type 0) → P executionContext → P (objectContextIn canRead) → P (objectContextIn canWrite) → P place
-  by-context P a b c = ⊎-elim (λ (e : place ≡ executionContext). subst P (sym e) a) (⊎-elim (λ (e : place ≡ objectContextIn canRead). subst P (sym e) b) (λ (e : place ≡ objectContextIn canWrite). subst P (sym e) c)) which
-
-  pattern-default : defaultAt (callContextIn place) ≡ bytes "[all]"
-  unfolding defaultAt callContexts anyOf
-  pattern-default = by-context (λ p. defaultAt (callContextIn p) ≡ bytes "[all]") refl refl refl
-
-  uid-default : defaultAt (uidIn place) ≡ bytes "all"
-  unfolding defaultAt callContexts anyOf
-  uid-default = by-context (λ p. defaultAt (uidIn p) ≡ bytes "all") refl refl refl
-
-  gid-default : defaultAt (gidIn place) ≡ bytes "all"
-  unfolding defaultAt callContexts anyOf
-  gid-default = by-context (λ p. defaultAt (gidIn p) ≡ bytes "all") refl refl refl
-
-  place-below : place ≤ objectContextIn canWrite
-  place-below = by-context (λ p. p ≤ objectContextIn canWrite) (omega arith) (omega arith) (omega arith)
-
-  pub pattern-fits : Fits w64 (place + 1)
-  pattern-fits = omega (arith, place-below)
-
-  pub uid-fits : Fits w64 (place + 2)
-  uid-fits = omega (arith, place-below)
-
-  pub gid-fits : Fits w64 (place + 3)
-  gid-fits = omega (arith, place-below)
-
--- the value at a place, by what it is where it is omitted
-told-value : (place : ℕ) (fs : List Field) (omitted v : List ℕ) → defaultAt place ≡ omitted → v ≡ valueOr omitted (bytes "[]") place fs → v ≡ valueAt place fs
-told-value place fs omitted v d e = e ∙ rw (← d) (value-or place fs)
 
 -- the subject's number and the counts of descriptors
 pub counts-written : (t ix : List ℕ) (n : ℕ) (fs : List Field) (v out : List ℕ) (a b c : ℕ) → v ≡ valueOr (bytes "all") (bytes "[]") subjectOfEntry fs
@@ -215,7 +141,8 @@ module _ (out : List ℕ) (z : out ≡ replicate contextSize 0) where
       context-written number uid gid ys ec eu eg ey =
           let w : ys ≡ padded mostElements (map (wordBy number) (elements p)) =
           ey ∙ rw (z, e, inside-elements p) (words-written mostElements (map (wordBy number) (elements p)) (rw length-map few)) in
-          rw (z, w, ec, eu, eg) (ap (λ (l : List ℕ). length (elements p) ∷ sortNumber (sortOf uid) ∷ sortNumber (sortOf gid) ∷ 0 ∷ l) (append-nil (padded mostElements (map (wordBy number) (elements p)))))
+          rw (z, w, ec, eu, eg) (ap (λ (l : List ℕ). length (elements p) ∷ sortNumber (sortOf uid) ∷ sortNumber (sortOf gid) ∷ 0 ∷ l)
+          (append-nil (padded mostElements (map (wordBy number) (elements p)))))
 
 pub length-context : (number : List ℕ → ℕ) (p uid gid : List ℕ) → length (elements p) ≤ mostElements → length (contextBy number p uid gid) ≡ contextSize
 unfolding contextBy

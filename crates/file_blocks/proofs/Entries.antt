@@ -2,7 +2,7 @@
 use mathlib.Core.Path.{_≡_, refl, sym, ap, _∙_}
 use mathlib.Core.Bool.{Bool, true, false, cond}
 use mathlib.Core.List.{List, [], _∷_, _++_, map, append-nil, append-assoc}
-use Prim.Native.Nat.{ℕ, _+_, _-_, _*_, _<_, _≤_}
+use Prim.Native.Nat.{ℕ, _-_, _*_, _<_, _≤_}
 use native.Mathlib.Omega.{arith}
 use lib.ListN.{length, take, drop, set, replicate, length-append, length-map, length-replicate}
 use borrow.Rule.Slice.PartMut.{putMid}
@@ -152,7 +152,8 @@ access-counted file access fs = go (is "all" (valueAt access fs))
 parts-joined : (xs calls returns : List ℕ) (a b c : ℕ) → xs ++ (a ∷ b ∷ c ∷ []) ++ (0 ∷ []) ++ calls ++ returns ≡ xs ++ (a ∷ b ∷ c ∷ 0 ∷ (calls ++ returns))
 parts-joined xs calls returns a b c = rw (append-assoc, append-assoc, append-assoc) refl
 
-module _ (t six fix : List ℕ) (subjects functions : ℕ) (file fs : List Field) (ms : Mapped t six subjects mostDomains (domainsAt subjectName file)) (apart : repeats [] (domainsAt subjectName file) ≡ false)
+module _ (t six fix : List ℕ) (subjects functions : ℕ) (file fs : List Field) (ms : Mapped t six subjects mostDomains (domainsAt subjectName file))
+    (apart : repeats [] (domainsAt subjectName file) ≡ false)
     (mf : Mapped t fix functions mostMembers (identifiersAt subjectMembers file)) (few : length (elements (valueAt (callContextIn executionContext) fs)) ≤ mostElements)
     (out ys : List ℕ) (z : out ≡ replicate entrySize 0)
     (e : ys ≡ contextAt (numbersIn t fix functions) executionContext fs)
@@ -174,11 +175,20 @@ module _ (t six fix : List ℕ) (subjects functions : ℕ) (file fs : List Field
       let r : returns ≡ grantWords (grantOf (domainsAt subjectName file) (valueAt canReturn fs)) = h ∙ grant-known t six subjects mostDomains _ ms (omega arith) apart (valueAt canReturn fs) in
       after-returns _ _ _ _ few out ys z e _ _ _ counted f calls (grant-long-here _ calls g) returns (grant-long-here _ returns h)
       ∙ ap (padded entrySize) (parts-joined (contextAt (numbersIn t fix functions) executionContext fs) calls returns _ _ _
-      ∙ rw (context-is (numbersIn t fix functions) (identifiersAt subjectMembers file) (mf .index .knows) executionContext fs, ms .index .knows (valueAt subjectOfEntry fs), access-counted file canRead fs, access-counted file canWrite fs, q, r) refl)
+      ∙ rw (
+        context-is (numbersIn t fix functions) (identifiersAt subjectMembers file) (mf .index .knows) executionContext fs,
+        ms .index .knows
+            (valueAt subjectOfEntry fs),
+        access-counted file canRead fs,
+        access-counted file canWrite fs,
+        q,
+        r,
+      ) refl)
 
 -- ---- a descriptor
 
-module _ (t oix fix : List ℕ) (objects functions access : ℕ) (file fs : List Field) (mo : Mapped t oix objects mostDomains (domainsAt objectName file)) (apart : repeats [] (domainsAt objectName file) ≡ false)
+module _ (t oix fix : List ℕ) (objects functions access : ℕ) (file fs : List Field)
+    (mo : Mapped t oix objects mostDomains (domainsAt objectName file)) (apart : repeats [] (domainsAt objectName file) ≡ false)
     (mf : Mapped t fix functions mostMembers (identifiersAt subjectMembers file)) (few : length (elements (valueAt (callContextIn (objectContextIn access)) fs)) ≤ mostElements)
     (out ys : List ℕ) (z : out ≡ replicate descriptorSize 0)
     (e : ys ≡ contextAt (numbersIn t fix functions) (objectContextIn access) fs) where
@@ -198,11 +208,15 @@ module _ (t oix fix : List ℕ) (objects functions access : ℕ) (file fs : List
   pub objects-room : 29 ≤ length (ys ++ drop 20 out)
   objects-room = rw (after-object-context, length-padded descriptorSize object-context (omega (arith, object-context-long))) (omega arith)
 
-  pub descriptor-written : (granted : List ℕ) → granted ≡ grantBy (numbersIn t oix objects) objects (valueAt (objectsIn access) fs) → putMid 20 9 (ys ++ drop 20 out) granted ≡ descriptorWords (descriptorOf file access fs)
+  pub descriptor-written : (granted : List ℕ) → granted ≡ grantBy (numbersIn t oix objects) objects (valueAt (objectsIn access) fs)
+      → putMid 20 9 (ys ++ drop 20 out) granted ≡ descriptorWords (descriptorOf file access fs)
   unfolding descriptorWords descriptorOf
   descriptor-written granted g =
       let l : length granted ≡ 9 = rw g (length-known t oix objects mostDomains (domainsAt objectName file) mo (omega arith) apart (valueAt (objectsIn access) fs)) in
-      let q : granted ≡ grantWords (grantOf (domainsAt objectName file) (valueAt (objectsIn access) fs)) = g ∙ grant-known t oix objects mostDomains _ mo (omega arith) apart (valueAt (objectsIn access) fs) in
-      let o : object-context ≡ contextWords (contextOf (identifiersAt subjectMembers file) (objectContextIn access) fs) = context-is (numbersIn t fix functions) (identifiersAt subjectMembers file) (mf .index .knows) (objectContextIn access) fs in
-      let w : putMid 20 9 (ys ++ drop 20 out) granted ≡ padded descriptorSize (object-context ++ granted) = rw after-object-context (put-behind descriptorSize 20 9 object-context object-context-long (omega arith) granted l) in
+      let q : granted ≡ grantWords (grantOf (domainsAt objectName file) (valueAt (objectsIn access) fs)) = g ∙ grant-known t oix objects mostDomains
+      _ mo (omega arith) apart (valueAt (objectsIn access) fs) in
+      let o : object-context ≡ contextWords (contextOf (identifiersAt subjectMembers file) (objectContextIn access) fs) = context-is
+      (numbersIn t fix functions) (identifiersAt subjectMembers file) (mf .index .knows) (objectContextIn access) fs in
+      let w : putMid 20 9 (ys ++ drop 20 out) granted ≡ padded descriptorSize (object-context ++ granted) = rw after-object-context
+      (put-behind descriptorSize 20 9 object-context object-context-long (omega arith) granted l) in
       w ∙ rw (o, q) refl

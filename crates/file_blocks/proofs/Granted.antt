@@ -102,7 +102,8 @@ module _ (n : ℕ) (domains : List ℕ) (d : ℕ) (l : d < n) (few : n ≤ mostD
 
   put-below : isIn domains d ≡ false → (j : ℕ) → j < setSize → getD (set domains at put) j 0 < 2 ^ min wordBits (n - wordBits * j)
   put-below h j k = dite (ℕ-discrete j at)
-      (λ (e : j ≡ at). rw (e, getD-set-same domains at put 0 (omega (arith, a .long))) (bit-fits (min wordBits (n - wordBits * at)) (d % wordBits) (getD domains at 0) (omega arith) (a .below at (omega arith)) (off h)))
+      (λ (e : j ≡ at). rw (e, getD-set-same domains at put 0 (omega (arith, a .long)))
+      (bit-fits (min wordBits (n - wordBits * at)) (d % wordBits) (getD domains at 0) (omega arith) (a .below at (omega arith)) (off h)))
       (λ (m : j ≡ at → ⊥). rw (getD-set-other domains at j put 0 m) (a .below j k))
 
   one-more : Among n (withDomain domains d)

@@ -1,7 +1,5 @@
 -- The words of a context and of a grant as the code writes them, names being numbered by `number`.
 use Prim.Native.Nat.{ℕ, _+_}
-use mathlib.Core.Path.{_≡_}
-use mathlib.Core.Logic.{_⊎_}
 use mathlib.Core.List.{List, [], _∷_, map}
 use mathlib.Core.Bool.{cond}
 use lib.Dec.{ltb}
@@ -10,19 +8,11 @@ use Rattle.paper.specs.Common.{is}
 use Rattle.paper.specs.Limits.{mostElements}
 use Rattle.paper.specs.Scalars.{sortNumber, sortOf}
 use Rattle.paper.specs.Lists.{elements}
-use Rattle.paper.specs.Listing.{subjectOfEntry, executionContext, canRead, canWrite, callContextIn, uidIn, gidIn, objectContextIn}
+use Rattle.paper.specs.Listing.{subjectOfEntry, canRead, canWrite, callContextIn, uidIn, gidIn}
 use Rattle.paper.specs.Page.{Field}
 use Rattle.paper.specs.Entries.{valueAt}
 use Rattle.paper.specs.Rules.{descriptorsOf}
 use Rattle.paper.specs.Table.{everyWord, setSize, padded, withDomain}
-
--- `can_read` or `can_write`
-abbrev pub IsAccess : ℕ → Type 0
-IsAccess place = (place ≡ canRead) ⊎ (place ≡ canWrite)
-
--- the place of a context
-abbrev pub IsContext : ℕ → Type 0
-IsContext place = (place ≡ executionContext) ⊎ ((place ≡ objectContextIn canRead) ⊎ (place ≡ objectContextIn canWrite))
 
 -- words written over those from number i on, one behind the other
 unfoldable pub putFrom : ℕ → List ℕ → List ℕ → List ℕ

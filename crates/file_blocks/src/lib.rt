@@ -7,6 +7,7 @@ use paper::Operation;
 use table::layout;
 use text_keys::rows;
 use text_lists::Element;
+use text_lists::is_all;
 ghost use mathlib.Core.Path.{_≡_};
 ghost use mathlib.Core.Bool.{true, false};
 ghost use mathlib.Core.List.{[], map};
@@ -22,29 +23,18 @@ ghost use Rattle.paper.specs.Rules.{descriptorsOf, repeats, domainsAt, identifi
 ghost use Rattle.paper.specs.Policy.{descriptorOf, entryOf};
 ghost use Rattle.paper.specs.Table.{contextSize, grantSize, subjectAt, entrySize, descriptorSize, descriptorWords, entryWords};
 ghost use Rattle.file_fields.specs.Fields.{fieldSize, between, listSpaced, wellSpaced};
+ghost use Rattle.file_fields.specs.Places.{IsAccess, IsContext};
 ghost use Rattle.file_index.specs.Words.{namesAt, nameSize};
 ghost use Rattle.file_index.specs.Buckets.{numbersIn};
 ghost use Rattle.file_index.specs.Maps.{Mapped};
-ghost use Rattle.file_blocks.specs.Written.{IsAccess, IsContext, putFrom, wordBy, contextBy, contextAt, countsBy, withName, withNames, grantBy};
-
-// A context's keys stand behind it.
-const CALL_CONTEXT_IN: usize = 1;
-
-const UID_IN: usize = 2;
-
-const GID_IN: usize = 3;
-
-// Behind `can_read` or `can_write` stand an item's `objects` and its context.
-const OBJECTS_IN: usize = 1;
-
-const OBJECT_CONTEXT_IN: usize = 2;
+ghost use Rattle.file_blocks.specs.Written.{putFrom, wordBy, contextBy, contextAt, countsBy, withName, withNames, grantBy};
 
 // The word of an element of a pattern: 0 is `all`, the others are functions' numbers plus 1.
 fn element_word(t: &[u8], ix: &[usize], n: usize, name: &[u8]) -> u16
     requires { ⌜ (namesAt + nameSize * n ≤ length (now ix)) × (n ≤ mostMembers) ⌝ }
     ensures { λ r. ⌜ r ≡ wordBy (numbersIn (now (t .entry)) (now (ix .entry)) n) (now (name .entry)) ⌝ }
 {
-    if values::is_all(name) {
+    if is_all(name) {
         return 0;
     }
     (number_in(t, ix, n, name) + 1) as u16
@@ -112,9 +102,17 @@ fn write_context(
     requires { ⌜ now out ≡ replicate contextSize 0 ⌝ }
     ensures { λ _. ⌜ now (out .exit) ≡ contextAt (numbersIn (now (t .entry)) (now (ix .entry)) n) place (between (now (t .entry)) (now (list .entry)) from to) ⌝ }
 {
-    let pattern = value_at(t, list, place + CALL_CONTEXT_IN, from, to, b"[all]", b"[]");
-    let uid = value_at(t, list, place + UID_IN, from, to, b"all", b"[]");
-    let gid = value_at(t, list, place + GID_IN, from, to, b"all", b"[]");
+    let pattern = value_at(
+        t,
+        list,
+        place + rows::CALL_CONTEXT,
+        from,
+        to,
+        b"[all]",
+        b"[]",
+    );
+    let uid = value_at(t, list, place + rows::UID, from, to, b"all", b"[]");
+    let gid = value_at(t, list, place + rows::GID, from, to, b"all", b"[]");
     write_keys(t, ix, n, pattern, uid, gid, out);
 }
 
@@ -155,7 +153,7 @@ fn write_domains(t: &[u8], ix: &[usize], n: usize, v: &[u8], out: &mut [u16])
     requires { ⌜ now out ≡ replicate grantSize 0 ⌝ }
     ensures { λ _. ⌜ now (out .exit) ≡ grantBy (numbersIn (now (t .entry)) (now (ix .entry)) n) n (now (v .entry)) ⌝ }
 {
-    if values::is_all(v) {
+    if is_all(v) {
         out[0] = layout::EVERY;
         return;
     }
@@ -290,7 +288,7 @@ pub fn write_descriptor(
     write_context(
         t,
         list,
-        access + OBJECT_CONTEXT_IN,
+        access + rows::ITEM_CONTEXT,
         from,
         to,
         functions_ix,
@@ -300,7 +298,7 @@ pub fn write_descriptor(
     write_grant(
         t,
         list,
-        access + OBJECTS_IN,
+        access + rows::ITEM_OBJECTS,
         from,
         to,
         objects_ix,

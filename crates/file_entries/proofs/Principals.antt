@@ -15,8 +15,8 @@ use Rattle.paper.specs.Entries.{defaultAt, valueAt}
 use Rattle.paper.specs.Rules.{sameSort, samePrincipal}
 use Rattle.laws.proofs.Tests.{same-equal, both-of}
 use Rattle.file_fields.specs.Fields.{valueOr}
-use Rattle.file_index.specs.Buckets.{hashOf}
-use Rattle.file_entries.specs.Principals.{multiplier, sorts, hashAt, sortAt, principalHash, entryIn, Hashed}
+use Rattle.file_index.specs.Buckets.{multiplier, hashOf}
+use Rattle.file_entries.specs.Principals.{sorts, hashAt, sortAt, principalHash, entryIn, Hashed}
 use Rattle.file_entries.proofs.Omitted.{value-is}
 
 -- ---- one part of a principal

@@ -8,11 +8,7 @@ use Rattle.paper.specs.Scalars.{sortNumber, sortOf}
 use Rattle.paper.specs.Page.{Field}
 use Rattle.paper.specs.Entries.{valueAt}
 use Rattle.file_fields.specs.Fields.{fieldSize, between}
-use Rattle.file_index.specs.Buckets.{hashOf}
-
--- the multiplier of the hashes
-abbrev pub multiplier : ℕ
-multiplier = 65599
+use Rattle.file_index.specs.Buckets.{multiplier, hashOf}
 
 -- there are four sorts
 abbrev pub sorts : ℕ

@@ -16,9 +16,6 @@ ghost use Rattle.file_index.specs.Buckets.{hashes};
 ghost use Rattle.file_entries.specs.Keys.{keyIn};
 ghost use Rattle.file_entries.specs.Principals.{sorts, hashAt, sortAt, principalHash, entryIn, entriesBelow, Hashed, AllHashed};
 
-// The multiplier of the hashes of subjects and patterns.
-const MULTIPLIER: usize = 65599;
-
 const SORTS: usize = 4;
 
 // Each entry has a start, and the last an end.
@@ -121,7 +118,7 @@ fn hash_at<'a>(
     ensures { λ r. ⌜ (r ≡ hashAt place (between (now (t .entry)) (now (list .entry)) from to)) × (r < hashes) ⌝ }
 {
     let v = file_fields::value_at(t, list, place, from, to, omitted, b"[]");
-    file_index::hash(MULTIPLIER, v)
+    file_index::hash(file_index::MULTIPLIER, v)
 }
 
 fn sort_at(t: &[u8], list: &[usize], place: usize, from: usize, to: usize) -> usize

@@ -1,20 +1,19 @@
 -- The fields between two numbers of the list: one field at a time, stretch by stretch, and with one put behind them.
 use mathlib.Core.Path.{_≡_, refl, sym, ap, _∙_}
 use mathlib.Core.Bool.{Bool, true, false, cond}
-use mathlib.Core.Logic.{_⊎_, inl, inr, ⊎-elim}
 use mathlib.Core.List.{List, [], _∷_, _++_, map, map-append}
 use Prim.Native.Nat.{ℕ, zero, suc, _+_, _-_, _*_, _<_, _≤_}
 use native.Mathlib.Nat.{zero-add}
 use native.Mathlib.Omega.{arith}
 use lib.Dec.{eqb}
-use lib.ListN.{length, getD, take, drop, set}
+use lib.ListN.{length, getD, take, drop, set, length-take, length-drop}
 use lib.Seq.{getD-set-same, getD-set-other}
-use borrow.Author.Tests.{eqb-true, eq-eqb, ne-eqb, lt-ltb}
+use borrow.Author.Tests.{eqb-true, eq-eqb, ne-eqb}
 use Rattle.paper.specs.Common.{bytes, isEmpty, countUp}
 use Rattle.paper.specs.Page.{Field}
 use Rattle.paper.specs.Entries.{isAt, defaultAt, meant, valueAt, upToNext, stretchesFrom}
 use Rattle.laws.proofs.Counting.{counted-append}
-use Rattle.file_fields.specs.Fields.{fieldSize, placeIn, lineIn, startIn, endIn, valueIn, fieldAt, between, withField, nextAt, oneIn, countAt, valueOr}
+use Rattle.file_fields.specs.Fields.{fieldSize, placeIn, lineIn, startIn, endIn, valueIn, fieldAt, between, withField, nextAt, countAt, valueOr}
 use Rattle.file_fields.proofs.Laws.{room-for-line, room-for-start, room-for-end}
 
 -- ---- one field at a time
@@ -51,6 +50,9 @@ module _ (t list : List ℕ) where
   value-of : (i : ℕ) → fieldAt t list i .value ≡ valueIn t list i
   unfolding fieldAt
   value-of i = refl
+
+  pub value-short : (i : ℕ) → length (valueIn t list i) ≤ length t
+  value-short i = rw length-take (omega (arith, length-drop (startIn list i) t))
 
   -- ---- the next field of a place
 
@@ -160,6 +162,11 @@ module _ (t list : List ℕ) (p from to : ℕ) where
       let e : from + (to - from) ≡ to = omega arith in
       rw e at (run-behind t list p from (to - from))
 
+  -- what stands before it
+  pub before-next : upToNext p (between t list from to) ≡ between t list from next
+  unfolding between
+  before-next = run-before t list p from (to - from)
+
   pub count-stretches : countAt list p from (to - from) ≡ length (stretchesFrom p (between t list from to))
   unfolding between
   count-stretches = count-run t list p from (to - from)
@@ -182,7 +189,8 @@ module _ (t list : List ℕ) (p from to : ℕ) where
         run-more t list from (nextAt list p (from + 1) (to - (from + 1)) - (from + 1)),
         run-before t list p (from + 1) (to - (from + 1)),
       )
-      (ap (λ (l : List (List Field)). (fieldAt t list from ∷ run t list (from + 1) (nextAt list p (from + 1) (to - (from + 1)) - (from + 1))) ∷ l) (rw whole at (run-behind t list p (from + 1) (to - (from + 1)))))
+      (ap (λ (l : List (List Field)). (fieldAt t list from ∷ run t list (from + 1) (nextAt list p (from + 1) (to - (from + 1)) - (from + 1))) ∷ l)
+      (rw whole at (run-behind t list p (from + 1) (to - (from + 1)))))
 
   module _ (omitted none : List ℕ) (n : ℕ) (e : n ≡ next) where
     pub value-is-omitted : to ≤ n → omitted ≡ valueOr omitted none p (between t list from to)
@@ -277,4 +285,15 @@ module _ (list : List ℕ) (n line place start end : ℕ) (room : fieldSize * (n
     between-put =
         let e : n + 1 - 0 ≡ n + 1 = omega arith in
         let f : n - 0 ≡ n = omega arith in
-        rw (e, f, counted-append 0 n 1, map-append (fieldAt t put) (countUp 0 n) (countUp (0 + n) 1), run-stays 0 n (omega arith), zero-add, run-more t put n 0, run-none t put (n + 1), put-field-at) refl
+        rw (
+          e,
+          f,
+          counted-append 0 n 1,
+          map-append (fieldAt t put) (countUp 0 n) (countUp (0 + n) 1),
+          run-stays 0 n (omega arith),
+          zero-add,
+          run-more
+              t put n 0,
+          run-none t put (n + 1),
+          put-field-at,
+        ) refl

@@ -5,3 +5,5 @@ pub mod Entries
 pub mod Listing
 pub mod Valued
 pub mod Accesses
+pub mod Walking
+pub mod Places

@@ -2,16 +2,16 @@
 use mathlib.Core.Path.{_≡_, refl, sym, ap, _∙_}
 use mathlib.Core.Bool.{Bool, true, false, cond, not, _||_}
 use mathlib.Core.List.{List, [], _∷_, map}
-use Prim.Native.Nat.{ℕ, suc, _+_, _-_, _*_, _^_, _<_, _≤_}
+use Prim.Native.Nat.{ℕ, _+_, _-_, _*_, _^_, _<_, _≤_}
 use native.Mathlib.Omega.{arith}
 use mir.Syntax.{w64}
 use mir.Val.{Fits}
-use lib.Dec.{eqb, ltb}
+use lib.Dec.{eqb}
 use lib.ListN.{length, getD, take, drop, length-map, length-take, length-drop, drop-of-length-le}
 use borrow.Author.Tests.{eq-eqb, ne-eqb, lt-ltb, le-ltb}
 use Rattle.paper.specs.Common.{isEmpty, is, cut, onPiece}
 use Rattle.paper.specs.Text.{comma}
-use Rattle.paper.specs.Scalars.{anyone, variable, root, user, sortNumber, sortOf}
+use Rattle.paper.specs.Scalars.{root, user, sortNumber, sortOf}
 use Rattle.paper.specs.Lists.{bracketed, inside, spaced, unspaced, elementsIn, elements}
 use Rattle.paper.specs.Rules.{earlier}
 use Rattle.laws.proofs.Places.{drop-more}

@@ -3,17 +3,20 @@ pub mod values;
 
 use paper::limit;
 use paper::refusal;
+use text_keys::rows;
 use text_page::Next;
 ghost use mathlib.Core.Path.{_≡_};
-ghost use mathlib.Core.Logic.{_⊎_};
 ghost use Prim.Native.Nat.{_+_, _-_, _*_, _≤_};
+ghost use lib.Dec.{eqb};
 ghost use lib.ListN.{length};
+ghost use Rattle.paper.specs.Common.{anyOf};
 ghost use Rattle.paper.specs.Limits.{textBytes};
 ghost use Rattle.paper.specs.Page.{pageOf};
-ghost use Rattle.paper.specs.Listing.{canRead, canWrite};
+ghost use Rattle.paper.specs.Entries.{callContexts};
 ghost use Rattle.paper.specs.Rules.{earlier, descriptorsOf};
 ghost use Rattle.paper.specs.Promises.{textPage};
 ghost use Rattle.file_fields.specs.Fields.{fieldSize, placeIn, lineIn, startIn, valueIn, between, withField, nextAt, oneIn, countAt, valueOr};
+ghost use Rattle.file_fields.specs.Places.{IsAccess};
 ghost use Rattle.file_fields.specs.Listed.{mostFields, foundIn, Holds};
 
 // In the list: so many numbers for each field.
@@ -210,15 +213,23 @@ pub fn earlier(a: usize, b: usize) -> usize
     b
 }
 
+// One of the three places of a pattern.
+pub fn is_call_context(place: usize) -> bool
+    ensures { λ r. ⌜ r ≡ anyOf (eqb place) callContexts ⌝ }
+{
+    (place == rows::EXECUTION_CALL_CONTEXT)
+        | ((place == rows::READ_CALL_CONTEXT) | (place == rows::WRITE_CALL_CONTEXT))
+}
+
 // How many access descriptors `can_read` or `can_write` of an entry is.
 pub fn descriptors_of(t: &[u8], list: &[usize], access: usize, from: usize, to: usize) -> usize
     requires { ⌜ fieldSize * to ≤ length (now list) ⌝ }
-    requires { ⌜ (access ≡ canRead) ⊎ (access ≡ canWrite) ⌝ }
+    requires { ⌜ IsAccess access ⌝ }
     ensures { λ r. ⌜ r ≡ descriptorsOf access (between (now (t .entry)) (now (list .entry)) from to) ⌝ }
     ensures { λ r. ⌜ r ≤ 1 + to ⌝ }
 {
     let v = value_at(t, list, access, from, to, b"all", b"[]");
-    if values::is_all(v) {
+    if text_lists::is_all(v) {
         return 1;
     }
     count_at(list, access + 1, from, to)

@@ -1,5 +1,7 @@
 // What a field's value holds: `all`, the elements of a list, the sort of a uid or gid.
+use table::layout;
 use text_bytes::byte;
+use text_lists::is_all;
 ghost use mathlib.Core.Path.{_≡_};
 ghost use mathlib.Core.Bool.{cond};
 ghost use Prim.Native.Nat.{_+_, _≤_};
@@ -8,21 +10,6 @@ ghost use Rattle.paper.specs.Common.{is};
 ghost use Rattle.paper.specs.Scalars.{sortNumber, sortOf};
 ghost use Rattle.paper.specs.Lists.{elements};
 ghost use Rattle.file_fields.specs.Values.{commas, insideOf};
-
-// The sorts, as they stand in the table.
-pub const ANYONE: u16 = 0;
-
-pub const VARIABLE: u16 = 1;
-
-pub const ROOT: u16 = 2;
-
-pub const USER: u16 = 3;
-
-pub fn is_all(v: &[u8]) -> bool
-    ensures { λ r. ⌜ r ≡ is "all" (now (v .entry)) ⌝ }
-{
-    text_bytes::same(b"all", v)
-}
 
 fn is_root(v: &[u8]) -> bool
     ensures { λ r. ⌜ r ≡ is "root" (now (v .entry)) ⌝ }
@@ -41,15 +28,15 @@ pub fn sort_of(v: &[u8]) -> u16
     ensures { λ r. ⌜ r ≡ sortNumber (sortOf (now (v .entry))) ⌝ }
 {
     if is_all(v) {
-        return ANYONE;
+        return layout::ANYONE;
     }
     if is_root(v) {
-        return ROOT;
+        return layout::ROOT;
     }
     if is_user(v) {
-        return USER;
+        return layout::USER;
     }
-    VARIABLE
+    layout::VARIABLE
 }
 
 // What stands between the brackets of a list; of any other value, nothing.

@@ -1,19 +1,20 @@
 -- The steps of the code: a byte more in a hash, a link more in a bucket, each from the words as they are read.
 use mathlib.Core.Path.{_≡_, refl, sym, ap, _∙_}
 use mathlib.Core.Bool.{Bool, true, false, cond, _||_}
-use mathlib.Core.Logic.{⊎-elim}
 use mathlib.Core.List.{List}
-use Prim.Native.Nat.{ℕ, zero, suc, _+_, _*_, _-_, _/_, _%_, _<_, _≤_}
+use Prim.Native.Nat.{ℕ, zero, suc, _+_, _*_, _-_, _/_, _%_, _^_, _<_, _≤_}
 use native.Mathlib.Nat.{mul-le-mul}
 use native.Mathlib.Omega.{arith}
-use lib.Dec.{eqb, ltb}
+use lib.Dec.{ltb, leb}
 use lib.ListN.{length, getD, take, drop, set, drop-of-length-le}
-use borrow.Author.Tests.{eq-eqb, ne-eqb, lt-ltb, le-ltb, ltb-false}
+use borrow.Author.Tests.{eq-eqb, ne-eqb, lt-ltb, le-ltb, lt-leb, le-leb}
 use Rattle.paper.specs.Common.{same}
-use Rattle.laws.proofs.Tests.{same-or-not, either-right}
+use Rattle.laws.proofs.Tests.{either-right}
 use Rattle.laws.proofs.Places.{drop-more}
-use Rattle.file_index.specs.Words.{headsAt, buckets, startAt, endAt, hashAt, nextAt, nameAt, startIn, endIn, hashIn, nextIn, multiplierIn, headIn}
-use Rattle.file_index.specs.Buckets.{multipliers, hashes, spread, bucketSize, hashFrom, hashOf, bucketOf, isName, linkAfter, linkIn, numberOf, numberFrom, numbersIn, inserted}
+use Rattle.file_index.specs.Words.{headsAt, buckets, startAt, endAt, hashAt, linksAt, links, nameAt}
+use Rattle.file_index.specs.Words.{startIn, endIn, hashIn, multiplierIn, linkIn}
+use Rattle.file_index.specs.Buckets.{multipliers, hashes, spread, bucketSize, hashFrom, hashOf, bucketOf, isName, turnOf}
+use Rattle.file_index.specs.Buckets.{Place, Found, Free, wayEndFrom, wayEnd, placeNumber, Within, numberOf, numbersIn, wordOf, insertedAt}
 
 -- ---- the hash
 
@@ -46,87 +47,132 @@ module _ (t ix : List ℕ) (h : ℕ) (x : List ℕ) (k : ℕ) where
   pub same-hash : (s : List ℕ) (r : Bool) → hashIn ix k ≡ h → s ≡ take (endIn ix k - startIn ix k) (drop (startIn ix k) t) → r ≡ same s x → r ≡ isName t ix h x k
   same-hash s r e f g = rw (eq-eqb _ _ e, ← f) g
 
-module _ (ix : List ℕ) (k : ℕ) where
-  pub no-link : k < nextIn ix k → 0 ≡ linkAfter ix k
-  unfolding linkAfter
-  no-link l = rw (lt-ltb _ _ l)
-
-  pub next-link : nextIn ix k ≤ k → nextIn ix k ≡ linkAfter ix k
-  unfolding linkAfter
-  next-link l = rw (le-ltb _ _ l)
-
-  pub link-falls : linkAfter ix k ≤ k
-  unfolding linkAfter
-  link-falls = go (ltb k (nextIn ix k)) refl
-    where
-      go : (b : Bool) → ltb k (nextIn ix k) ≡ b → cond b 0 (nextIn ix k) ≤ k
-      go true e = omega arith
-      go false e = ltb-false k (nextIn ix k) e
-
 -- ---- the way through a bucket
 
+module _ (x : List ℕ) (d : ℕ) where
+  pub no-turn : length x ≤ d / 4 → 0 ≡ turnOf x d
+  unfolding turnOf
+  no-turn l = rw (le-leb _ _ l)
+
+  pub its-turn : d / 4 < length x → getD x (length x - 1 - d / 4) 0 / 2 ^ (d % 4 * 2) % 4 ≡ turnOf x d
+  unfolding turnOf
+  its-turn l = rw (lt-leb _ _ l)
+
+pub turn-below : (m : ℕ) → m % 4 < links
+turn-below m = omega arith
+
 module _ (t ix : List ℕ) (n h : ℕ) (x : List ℕ) where
-  abbrev way : ℕ → ℕ → ℕ
-  way = linkIn t ix n h x
+  abbrev place : ℕ → ℕ → ℕ → ℕ → Place
+  place = wayEndFrom t ix n h x
 
-  no-way : (fuel : ℕ) → way fuel 0 ≡ 0
-  unfolding linkIn
-  no-way zero = refl
-  no-way (suc fuel) = refl
+  pub at-head : (b : ℕ) → b ≡ bucketOf h → place (n - 0) 0 0 (headsAt + b) ≡ wayEnd t ix n h x
+  at-head b e = let z : n - 0 ≡ n = omega arith in rw (e, z)
 
-  -- as many steps as the link's number are enough
-  steps-enough : (f g i : ℕ) → i ≤ f → i ≤ g → way f i ≡ way g i
-  unfolding linkIn
-  steps-enough zero g i p q = let e : i ≡ 0 = omega arith in rw e (sym (no-way g))
-  steps-enough (suc f) zero i p q = let e : i ≡ 0 = omega arith in rw e (no-way (suc f))
-  steps-enough (suc f) (suc g) i p q = ⊎-elim
-      (λ (e : i ≡ 0). rw e)
-      (λ (d : i ≡ 0 → ⊥). ap (λ (l : ℕ). cond (eqb i 0 || ltb n i) 0 (cond (isName t ix h x (i - 1)) i l))
-      (steps-enough f g (linkAfter ix (i - 1)) (omega (arith, link-falls ix (i - 1))) (omega (arith, link-falls ix (i - 1)))))
-      (same-or-not i 0)
+  -- where there is no link, the way ends
+  way-ends : (fuel d last w : ℕ) → (leb (linkIn ix w) last || ltb n (linkIn ix w)) ≡ true → place fuel d last w ≡ Free w
+  unfolding wayEndFrom
+  way-ends zero d last w e = refl
+  way-ends (suc fuel) d last w e = rw e
+
+  pub way-low : (fuel d last w : ℕ) → linkIn ix w ≤ last → place fuel d last w ≡ Free w
+  way-low fuel d last w l = way-ends fuel d last w (rw (le-leb _ _ l) refl)
 
   -- one step
-  pub way-on : (k : ℕ) → k < n → way (k + 1) (k + 1) ≡ cond (isName t ix h x k) (k + 1) (way (linkAfter ix k) (linkAfter ix k))
-  unfolding linkIn
-  way-on k l =
-      let e : k + 1 - 1 ≡ k = omega arith in
-      let d : k + 1 ≡ 0 → ⊥ = λ z. omega arith in
-      rw (steps-enough (k + 1) (suc k) (k + 1) (omega arith) (omega arith), ne-eqb _ _ d, le-ltb n (k + 1) (omega arith), e, steps-enough k (linkAfter ix k) (linkAfter ix k) (link-falls ix k) (omega arith))
+  pub way-on : (fuel d last w : ℕ) → last < linkIn ix w → linkIn ix w ≤ n → place (suc fuel) d last w ≡
+      cond (isName t ix h x (linkIn ix w - 1)) (Found (linkIn ix w - 1))
+      (place fuel (d + 1) (linkIn ix w) (nameAt (linkIn ix w - 1) + linksAt + turnOf x d))
+  unfolding wayEndFrom
+  way-on fuel d last w l m = rw (lt-leb _ _ l, le-ltb _ _ m)
 
-  way-past : (i : ℕ) → n < i → way i i ≡ 0
-  unfolding linkIn
-  way-past zero l = refl
-  way-past (suc k) l = rw (lt-ltb n (suc k) l, either-right (eqb (suc k) 0) true refl)
+  module _ (d last w : ℕ) (inv : place (n - d) d last w ≡ wayEnd t ix n h x) where
+    pub free-low : linkIn ix w ≤ last → Free w ≡ wayEnd t ix n h x
+    free-low l = sym (way-low (n - d) d last w l) ∙ inv
 
-pub at-head : (t ix : List ℕ) (n h b : ℕ) (x : List ℕ) → h ≡ hashOf (multiplierIn ix) x → b ≡ bucketOf h → numberFrom t ix n h x (headIn ix b) ≡ numbersIn t ix n x
-unfolding numbersIn
-at-head t ix n h b x e f = rw (f, e)
+    pub free-past : n < linkIn ix w → Free w ≡ wayEnd t ix n h x
+    free-past l = sym (way-ends (n - d) d last w (either-right (leb (linkIn ix w) last) (ltb n (linkIn ix w)) (lt-ltb _ _ l))) ∙ inv
 
-module _ (t ix : List ℕ) (n h : ℕ) (x : List ℕ) (i : ℕ) (inv : numberFrom t ix n h x i ≡ numbersIn t ix n x) where
-  pub at-end : i ≡ 0 → n ≡ numbersIn t ix n x
-  unfolding linkIn numberOf
-  at-end e = rw e at inv
+    module _ (low : d ≤ last) (l : last < linkIn ix w) (m : linkIn ix w ≤ n) (r : Bool) (told : r ≡ isName t ix h x (linkIn ix w - 1)) where
+      stepped : cond r (Found (linkIn ix w - 1))
+          (place (n - (d + 1)) (d + 1) (linkIn ix w) (nameAt (linkIn ix w - 1) + linksAt + turnOf x d)) ≡ wayEnd t ix n h x
+      stepped =
+          let e : suc (n - (d + 1)) ≡ n - d = omega arith in
+          rw told (sym (way-on (n - (d + 1)) d last w l m) ∙ (rw e inv))
 
-  pub at-no-name : n < i → n ≡ numbersIn t ix n x
-  unfolding numberOf
-  at-no-name l = rw (way-past t ix n h x i l) at inv
+      pub name-found : r ≡ true → Found (linkIn ix w - 1) ≡ wayEnd t ix n h x
+      name-found f = rw f at stepped
 
-  at-step : (i ≡ 0 → ⊥) → i ≤ n → numberOf n (cond (isName t ix h x (i - 1)) i (linkIn t ix n h x (linkAfter ix (i - 1)) (linkAfter ix (i - 1)))) ≡ numbersIn t ix n x
-  at-step d l =
-      let e : i - 1 + 1 ≡ i = omega arith in
-      ap (numberOf n) (rw e at (sym (way-on t ix n h x (i - 1) (omega arith)))) ∙ inv
+      pub name-passed : (turn : ℕ) → r ≡ false → turn ≡ turnOf x d
+          → place (n - (d + 1)) (d + 1) (linkIn ix w) (nameAt (linkIn ix w - 1) + linksAt + turn) ≡ wayEnd t ix n h x
+      name-passed turn f e = rw e (rw f at stepped)
 
-  pub at-name : (r : Bool) → (i ≡ 0 → ⊥) → i ≤ n → r ≡ isName t ix h x (i - 1) → r ≡ true → i - 1 ≡ numbersIn t ix n x
-  unfolding numberOf
-  at-name r d l e f = rw (← e, f, ne-eqb i 0 d) at (at-step d l)
+pub head-within : (b : ℕ) → b < buckets → headsAt + b < nameAt 0
+head-within b l = omega arith
 
-  pub at-other : (r : Bool) (next : ℕ) → (i ≡ 0 → ⊥) → i ≤ n → r ≡ isName t ix h x (i - 1) → r ≡ false → next ≡ linkAfter ix (i - 1)
-      → numberFrom t ix n h x next ≡ numbersIn t ix n x
-  at-other r next d l e f g = rw (← e, f, ← g) at (at-step d l)
+pub within-free : (n last w : ℕ) → w < nameAt last → last ≤ n → Within n (Free w)
+unfolding Within
+within-free n last w l m = omega arith
+
+pub within-found : (n last i : ℕ) → last < i → i ≤ n → Within n (Found (i - 1))
+unfolding Within
+within-found n last i l m = omega arith
+
+-- the same of a place that is known to be such
+module _ (n : ℕ) (p : Place) where
+  pub free-told : (w : ℕ) → Free w ≡ p → n + w ≡ placeNumber n p
+  unfolding placeNumber
+  free-told w e = rw (← e)
+
+  pub found-told : (k : ℕ) → Found k ≡ p → k ≡ placeNumber n p
+  unfolding placeNumber
+  found-told k e = rw (← e)
+
+  pub free-within : (last w : ℕ) → Free w ≡ p → w < nameAt last → last ≤ n → Within n p
+  free-within last w e l m = rw (← e) (within-free n last w l m)
+
+  pub found-within : (last i : ℕ) → Found (i - 1) ≡ p → last < i → i ≤ n → Within n p
+  found-within last i e l m = rw (← e) (within-found n last i l m)
+
+-- what the number of a place tells
+module _ (n r : ℕ) where
+  is-found : (p : Place) → r ≡ placeNumber n p → r < n → p ≡ Found r
+  unfolding placeNumber
+  is-found (Found k) e l = ap Found (sym e)
+  is-found (Free w) e l = absurd (omega arith)
+
+  is-free : (p : Place) → r ≡ placeNumber n p → Within n p → n ≤ r → p ≡ Free (r - n)
+  unfolding placeNumber Within
+  is-free (Found k) e i l = absurd (omega arith)
+  is-free (Free w) e i l = ap Free (omega arith)
+
+  free-before : (p : Place) → r ≡ placeNumber n p → Within n p → n ≤ r → r - n < nameAt n
+  unfolding Within
+  free-before p e i l = rw (is-free p e i l) at i
+
+module _ (t ix : List ℕ) (n h : ℕ) (x : List ℕ) (hashed : h ≡ hashOf (multiplierIn ix) x) where
+  its-number : numberOf n (wayEnd t ix n h x) ≡ numbersIn t ix n x
+  unfolding numbersIn
+  its-number = rw hashed
+
+  module _ (r : ℕ) (told : r ≡ placeNumber n (wayEnd t ix n h x)) where
+    pub number-found : r < n → r ≡ numbersIn t ix n x
+    unfolding numberOf
+    number-found l = rw (is-found n r (wayEnd t ix n h x) told l) at its-number
+
+    module _ (within : Within n (wayEnd t ix n h x)) (l : n ≤ r) where
+      pub number-free : n ≡ numbersIn t ix n x
+      unfolding numberOf
+      number-free = rw (is-free n r (wayEnd t ix n h x) told within l) at its-number
+
+      pub word-free : wordOf (wayEnd t ix n h x) ≡ r - n
+      unfolding wordOf
+      word-free = rw (is-free n r (wayEnd t ix n h x) told within l)
+
+      pub word-before : r - n < nameAt n
+      word-before = free-before n r (wayEnd t ix n h x) told within l
 
 -- ---- a name more
 
-pub inserted-is : (ix : List ℕ) (n start end h b : ℕ) → b ≡ bucketOf h
-    → set (set (set (set (set ix (nameAt n + startAt) start) (nameAt n + endAt) end) (nameAt n + hashAt) h) (nameAt n + nextAt) (headIn ix b)) (headsAt + b) (n + 1) ≡ inserted ix n start end h
-unfolding inserted
-inserted-is ix n start end h b e = rw e
+pub inserted-is : (ix : List ℕ) (n w start end h : ℕ)
+    → set (set (set (set ix (nameAt n + startAt) start) (nameAt n + endAt) end) (nameAt n + hashAt) h) w (n + 1) ≡ insertedAt ix n w start end h
+unfolding insertedAt
+inserted-is ix n w start end h = refl

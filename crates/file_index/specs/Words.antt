@@ -1,4 +1,4 @@
--- Where each word of an index stands: the multiplier of the hash, the head of each bucket, and four words for each name.
+-- Where each word of an index stands: the multiplier of the hash, the head of each bucket, and seven words for each name.
 use Prim.Native.Nat.{ℕ, _+_, _*_, _-_}
 use mathlib.Core.List.{List}
 use lib.ListN.{getD, take, drop}
@@ -21,7 +21,7 @@ namesAt = 1025
 
 -- how many words a name has
 abbrev pub nameSize : ℕ
-nameSize = 4
+nameSize = 7
 
 -- of a name: where it starts in the text
 abbrev pub startAt : ℕ
@@ -35,9 +35,13 @@ endAt = 1
 abbrev pub hashAt : ℕ
 hashAt = 2
 
--- its next, as a link: 0 is none, k + 1 is name k
-abbrev pub nextAt : ℕ
-nextAt = 3
+-- its links, one behind the other: 0 is none, k + 1 is name k
+abbrev pub linksAt : ℕ
+linksAt = 3
+
+-- how many links a name has
+abbrev pub links : ℕ
+links = 4
 
 -- where the words of name k stand
 abbrev pub nameAt : ℕ → ℕ
@@ -49,9 +53,9 @@ nameAt k = namesAt + nameSize * k
 abbrev pub multiplierIn : List ℕ → ℕ
 multiplierIn ix = getD ix multiplierAt 0
 
--- the link with which bucket b begins
-abbrev pub headIn : List ℕ → ℕ → ℕ
-headIn ix b = getD ix (headsAt + b) 0
+-- the link in word w
+abbrev pub linkIn : List ℕ → ℕ → ℕ
+linkIn ix w = getD ix w 0
 
 -- the start of name k
 abbrev pub startIn : List ℕ → ℕ → ℕ
@@ -64,10 +68,6 @@ endIn ix k = getD ix (nameAt k + endAt) 0
 -- its hash
 abbrev pub hashIn : List ℕ → ℕ → ℕ
 hashIn ix k = getD ix (nameAt k + hashAt) 0
-
--- its next
-abbrev pub nextIn : List ℕ → ℕ → ℕ
-nextIn ix k = getD ix (nameAt k + nextAt) 0
 
 -- the stretch of the text that name k is
 abbrev pub nameIn : List ℕ → List ℕ → ℕ → List ℕ

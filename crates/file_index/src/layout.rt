@@ -5,7 +5,7 @@ pub const HEADS_AT: usize = 1;
 
 pub const NAMES_AT: usize = 1025;
 
-pub const NAME_SIZE: usize = 4;
+pub const NAME_SIZE: usize = 7;
 
 // Of a name.
 pub const START_AT: usize = 0;
@@ -14,4 +14,5 @@ pub const END_AT: usize = 1;
 
 pub const HASH_AT: usize = 2;
 
-pub const NEXT_AT: usize = 3;
+// The first of its four links.
+pub const LINKS_AT: usize = 3;

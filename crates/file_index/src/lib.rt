@@ -1,12 +1,16 @@
 // Names of a text found through buckets. An index is one lent slice of numbers; a name in it is a stretch of the text, and the
-// names whose hashes fall together are a chain from the last to the first. Links are names' numbers plus 1: 0 is none.
+// names whose hashes fall together are a tree, through which each goes its way by its bytes, from the last to the first, two bits a turn.
+// Names that differ part at one of these turns: so no way is long, whatever the text. Links are names' numbers plus 1: 0 is none.
 pub mod layout;
 
 ghost use mathlib.Core.Path.{_≡_};
 ghost use Prim.Native.Nat.{_+_, _*_, _<_, _≤_};
 ghost use lib.ListN.{length};
-ghost use Rattle.file_index.specs.Words.{buckets, namesAt, nameSize};
-ghost use Rattle.file_index.specs.Buckets.{hashes, hashOf, bucketOf, isName, linkAfter, numbersIn, inserted};
+ghost use Rattle.file_index.specs.Words.{buckets, namesAt, nameSize, links, multiplierIn};
+ghost use Rattle.file_index.specs.Buckets.{hashes, hashOf, bucketOf, turnOf, isName, wayEnd, placeNumber, Within, numbersIn, insertedAt};
+
+// The multiplier of hashes: whoever clears an index puts it into its first word.
+pub const MULTIPLIER: usize = 65599;
 
 const MULTIPLIERS: usize = 1048576;
 
@@ -50,13 +54,43 @@ fn is_name(t: &[u8], ix: &[usize], h: usize, name: &[u8], k: usize) -> bool
     text_bytes::same(stretch, name)
 }
 
-// Each link goes to a name before this one: so every chain ends, whatever the words say.
-fn link_after(ix: &[usize], k: usize) -> usize
-    requires { ⌜ namesAt + nameSize * (k + 1) ≤ length (now ix) ⌝ }
-    ensures { λ r. ⌜ (r ≡ linkAfter (now (ix .entry)) k) × (r ≤ k) ⌝ }
+// Turn d of the way of a name, one of four: two bits of a byte, from its last byte to its first. Behind them all turns are 0.
+fn turn(name: &[u8], d: usize) -> usize
+    ensures { λ r. ⌜ (r ≡ turnOf (now (name .entry)) d) × (r < links) ⌝ }
 {
-    let next = ix[layout::NAMES_AT + layout::NAME_SIZE * k + layout::NEXT_AT];
-    if k < next { 0 } else { next }
+    let back = d / 4;
+    if name.len() <= back {
+        return 0;
+    }
+    ((name[name.len() - 1 - back] as usize) >> (d % 4 * 2)) % 4
+}
+
+// Where the way of a name with its hash ends among the first n, as one number: below n it is that of the name, from n on that of the word
+// that its link can be put into. Each link goes to a later name: so every way ends, whatever the words say.
+pub fn way_end(t: &[u8], ix: &[usize], n: usize, h: usize, name: &[u8]) -> usize
+    requires { ⌜ namesAt + nameSize * n ≤ length (now ix) ⌝ }
+    ensures { λ r. ⌜ r ≡ placeNumber n (wayEnd (now (t .entry)) (now (ix .entry)) n h (now (name .entry))) ⌝ }
+    ensures { λ _. ⌜ Within n (wayEnd (now (t .entry)) (now (ix .entry)) n h (now (name .entry))) ⌝ }
+{
+    let mut w = layout::HEADS_AT + bucket(h);
+    let mut last: usize = 0;
+    let mut d: usize = 0;
+    loop {
+        let i = ix[w];
+        if i <= last {
+            return n + w;
+        }
+        if n < i {
+            return n + w;
+        }
+        let k = i - 1;
+        if is_name(t, ix, h, name, k) {
+            return k;
+        }
+        w = layout::NAMES_AT + layout::NAME_SIZE * k + layout::LINKS_AT + turn(name, d);
+        last = i;
+        d += 1;
+    }
 }
 
 // The number of a name among the first n; n where it is none of them.
@@ -65,31 +99,28 @@ pub fn number_in(t: &[u8], ix: &[usize], n: usize, name: &[u8]) -> usize
     ensures { λ r. ⌜ (r ≡ numbersIn (now (t .entry)) (now (ix .entry)) n (now (name .entry))) × (r ≤ n) ⌝ }
 {
     let h = hash(ix[layout::MULTIPLIER_AT], name);
-    let mut i = ix[layout::HEADS_AT + bucket(h)];
-    while i != 0 {
-        if n < i {
-            return n;
-        }
-        let k = i - 1;
-        if is_name(t, ix, h, name, k) {
-            return k;
-        }
-        i = link_after(ix, k);
-    }
-    n
+    number_hashed(t, ix, n, h, name)
 }
 
-// Name n goes in, at the head of its bucket.
-pub fn insert(ix: &mut [usize], n: usize, start: usize, end: usize, h: usize)
+// The same where the hash is known.
+pub fn number_hashed(t: &[u8], ix: &[usize], n: usize, h: usize, name: &[u8]) -> usize
+    requires { ⌜ namesAt + nameSize * n ≤ length (now ix) ⌝ }
+    requires { ⌜ h ≡ hashOf (multiplierIn (now ix)) (now name) ⌝ }
+    ensures { λ r. ⌜ (r ≡ numbersIn (now (t .entry)) (now (ix .entry)) n (now (name .entry))) × (r ≤ n) ⌝ }
+{
+    let place = way_end(t, ix, n, h, name);
+    if place < n { place } else { n }
+}
+
+// Name n goes in, its link into word w. Its own links are 0 already: behind the names an index has no other words.
+pub fn insert(ix: &mut [usize], n: usize, w: usize, start: usize, end: usize, h: usize)
     requires { ⌜ namesAt + nameSize * (n + 1) ≤ length (now ix) ⌝ }
-    ensures { λ r. ⌜ now (ix .exit) ≡ inserted (now (ix .entry)) n start end h ⌝ }
+    requires { ⌜ w < namesAt + nameSize * n ⌝ }
+    ensures { λ r. ⌜ now (ix .exit) ≡ insertedAt (now (ix .entry)) n w start end h ⌝ }
 {
     let at = layout::NAMES_AT + layout::NAME_SIZE * n;
-    let head = layout::HEADS_AT + bucket(h);
-    let next = ix[head];
     ix[at + layout::START_AT] = start;
     ix[at + layout::END_AT] = end;
     ix[at + layout::HASH_AT] = h;
-    ix[at + layout::NEXT_AT] = next;
-    ix[head] = n + 1;
+    ix[w] = n + 1;
 }

@@ -1,33 +1,29 @@
 -- Counts against their limits: what was counted and what is left pass the limit where all of it does.
-use mathlib.Core.Path.{_≡_, refl, sym, ap, _∙_}
-use mathlib.Core.Bool.{Bool, true, false, cond, _&&_, _||_}
+use mathlib.Core.Path.{_≡_, refl, _∙_}
+use mathlib.Core.Bool.{Bool, true, false, cond}
 use mathlib.Core.Logic.{_⊎_, inl, inr}
-use mathlib.Core.List.{List, [], _∷_}
+use mathlib.Core.List.{List}
 use Prim.Native.Nat.{ℕ, _+_, _-_, _*_, _^_, _<_, _≤_}
 use native.Mathlib.Omega.{arith}
 use mir.Syntax.{w64}
 use mir.Val.{Fits}
 use lib.Dec.{eqb, ltb}
-use lib.ListN.{length, getD, take, drop, length-take, length-drop}
+use lib.ListN.{length}
 use borrow.Author.Tests.{eq-eqb, ne-eqb, lt-ltb, le-ltb}
 use Rattle.paper.specs.Common.{anyOf}
-use Rattle.paper.specs.Limits.{mostElements}
 use Rattle.paper.specs.Listing.{principal, canRead, canWrite}
 use Rattle.paper.specs.Lists.{elements}
 use Rattle.paper.specs.Page.{Field}
 use Rattle.paper.specs.Entries.{callContexts, isAtOne, entriesOf, lineOfEntry}
 use Rattle.paper.specs.Rules.{earlier, earliest, firstWith, passing, oneAt, membersAt, longPattern, descriptorsOf, descriptorsIn, overLimit}
-use Rattle.file_fields.specs.Fields.{fieldSize, placeIn, lineIn, startIn, endIn, valueIn, fieldAt, between, nextAt}
-use Rattle.file_fields.proofs.Between.{between-more, between-none}
+use Rattle.file_fields.specs.Fields.{fieldSize, placeIn, lineIn, valueIn, fieldAt, between, nextAt}
+use Rattle.file_fields.proofs.Between.{between-more, between-none, value-short}
 use Rattle.file_fields.proofs.Entries.{entries-first, entry-room, entry-line, entries-more, entries-none}
 use Rattle.file_limits.specs.Counts.{weighed, mapLine}
 use Rattle.file_limits.specs.declared.Count.{Count}
 use Rattle.file_limits.specs.declared.Count.the-variants.{Fields, Members}
 
 -- ---- the weight of a field
-
-value-short : (t list : List ℕ) (i : ℕ) → length (valueIn t list i) ≤ length t
-value-short t list i = rw length-take (omega (arith, length-drop (startIn list i) t))
 
 module _ (t list : List ℕ) (i place p : ℕ) (e : p ≡ placeIn list i) where
   pub weightless : (count : Count) → (p ≡ place → ⊥) → 0 ≡ weighed count place (fieldAt t list i)
@@ -84,14 +80,6 @@ module _ (t list : List ℕ) (i p : ℕ) (e : p ≡ placeIn list i) (b : Bool) (
   unfolding longPattern isAtOne fieldAt
   pattern-long v n h f g = rw (← e, ← q, h, ← f, g) refl
 
-or-false : (b : Bool) → (b || false) ≡ b
-or-false true = refl
-or-false false = refl
-
-pub one-of-three : (p : ℕ) → (eqb p 11 || (eqb p 19 || eqb p 25)) ≡ anyOf (eqb p) callContexts
-unfolding anyOf callContexts
-one-of-three p = rw (or-false (eqb p 25)) refl
-
 -- ---- access descriptors
 
 pub read-access : (canRead ≡ canRead) ⊎ (canRead ≡ canWrite)
@@ -113,7 +101,8 @@ module _ (t list : List ℕ) (n whole : ℕ) where
   entries-start from e inv = rw (entries-first list 0 n from e t (omega arith)) inv
 
   module _ (from sum : ℕ) (inv : entriesLeft sum from ≡ whole) where
-    module _ (h : from < n) (s : nextAt list principal from (n - from) ≡ from) (to : ℕ) (q : to ≡ nextAt list principal (from + 1) (n - (from + 1))) (w : ℕ) (e : w ≡ descriptorsIn (between t list from to)) where
+    module _ (h : from < n) (s : nextAt list principal from (n - from) ≡ from) (to : ℕ) (q : to ≡ nextAt list principal (from + 1) (n - (from + 1)))
+        (w : ℕ) (e : w ≡ descriptorsIn (between t list from to)) where
       entry-step : cond (ltb 256 (sum + w)) (lineIn list from) (entriesLeft (sum + w) to) ≡ whole
       unfolding passing
       entry-step = rw (entries-more list from n to h q t s, ← e, entry-line list from n to h q t) at inv

@@ -1,6 +1,7 @@
 // 6: a count over its limit, at the line that passes it.
 use file_fields::descriptors_of;
 use file_fields::earlier;
+use file_fields::is_call_context;
 use file_fields::line_of;
 use file_fields::next_at;
 use file_fields::place_of;
@@ -12,10 +13,8 @@ use text_lines::NO_LINE;
 ghost use mathlib.Core.Path.{_≡_};
 ghost use Prim.Native.Nat.{_+_, _*_, _≤_};
 ghost use lib.ListN.{length};
-ghost use lib.Dec.{eqb};
-ghost use Rattle.paper.specs.Common.{anyOf};
 ghost use Rattle.paper.specs.Limits.{mostMembers, mostDescriptors};
-ghost use Rattle.paper.specs.Entries.{callContexts, entriesOf, lineOfEntry};
+ghost use Rattle.paper.specs.Entries.{entriesOf, lineOfEntry};
 ghost use Rattle.paper.specs.Rules.{firstWith, passing, longPattern, descriptorsIn, overLimit};
 ghost use Rattle.file_fields.specs.Fields.{fieldSize, fieldAt, between};
 ghost use Rattle.file_limits.specs.Counts.{weighed, mapLine};
@@ -62,13 +61,6 @@ fn passing_line(
         i += 1;
     }
     NO_LINE
-}
-
-fn is_call_context(place: usize) -> bool
-    ensures { λ r. ⌜ r ≡ anyOf (eqb place) callContexts ⌝ }
-{
-    (place == rows::EXECUTION_CALL_CONTEXT)
-        | ((place == rows::READ_CALL_CONTEXT) | (place == rows::WRITE_CALL_CONTEXT))
 }
 
 fn is_long(t: &[u8], list: &[usize], i: usize) -> bool

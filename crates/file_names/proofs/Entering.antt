@@ -27,7 +27,8 @@ use Rattle.file_fields.specs.Values.{insideOf}
 use Rattle.file_fields.proofs.Between.{between-more, between-none}
 use Rattle.file_fields.proofs.Valued.{inside-elements, inside-spaced}
 use Rattle.file_index.specs.Words.{namesAt, nameSize, nameAt, multiplierIn}
-use Rattle.file_index.specs.Buckets.{hashOf, numbersIn, inserted, Index}
+use Rattle.file_index.specs.Buckets.{hashOf, wayEnd, placeNumber, Within, numbersIn, insertedAt, inserted, Index}
+use Rattle.file_index.proofs.Steps.{number-found, number-free, word-free}
 use Rattle.file_index.proofs.Known.{index-known, new-number, index-after}
 use Rattle.file_names.specs.Naming.{Sound, namedAt, named, namesTo, EnteredAs, IndexedAs}
 use Rattle.file_names.specs.declared.indexes.Naming.{Naming}
@@ -45,18 +46,19 @@ stretch t start end = take (end - start) (drop start t)
 
 -- the words once it went in, unless it was known
 abbrev left : List ℕ → List ℕ → ℕ → ℕ → ℕ → Bool → List ℕ
-left t ix n start end known = cond known ix (inserted ix n start end (hashOf (multiplierIn ix) (stretch t start end)))
+left t ix n start end known = cond known ix (inserted t ix n start end (hashOf (multiplierIn ix) (stretch t start end)))
 
-module _ (t ix name : List ℕ) (n start end k : ℕ) (e : name ≡ stretch t start end) (f : k ≡ numbersIn t ix n name) where
-  pub known-told : k < n → true ≡ ltb (numbersIn t ix n (stretch t start end)) n
-  known-told h = rw (← e, ← f) (sym (lt-ltb k n h))
+module _ (t ix name : List ℕ) (n start end h : ℕ) (e : name ≡ stretch t start end) (f : h ≡ hashOf (multiplierIn ix) name)
+    (r : ℕ) (g : r ≡ placeNumber n (wayEnd t ix n h name)) where
+  pub known-told : r < n → true ≡ ltb (numbersIn t ix n (stretch t start end)) n
+  known-told l = rw (← e, ← number-found t ix n h name f r g l) (sym (lt-ltb r n l))
 
-  pub new-told : n ≤ k → false ≡ ltb (numbersIn t ix n (stretch t start end)) n
-  new-told h = rw (← e, ← f) (sym (le-ltb k n h))
+  module _ (within : Within n (wayEnd t ix n h name)) (l : n ≤ r) where
+    pub new-told : false ≡ ltb (numbersIn t ix n (stretch t start end)) n
+    new-told = rw (← e, ← number-free t ix n h name f r g within l) (sym (le-ltb n n (omega arith)))
 
-pub put-told : (t ix name after : List ℕ) (n start end h : ℕ) → name ≡ stretch t start end → h ≡ hashOf (multiplierIn ix) name → after ≡ inserted ix n start end h
-    → after ≡ left t ix n start end false
-put-told t ix name after n start end h e f g = rw (← e, ← f) g
+    pub put-told : (after : List ℕ) → after ≡ insertedAt ix n (r - n) start end h → after ≡ left t ix n start end false
+    put-told after q = rw (← e, ← f, word-free t ix n h name f r g within l) q
 
 module _ (t ix : List ℕ) (n start end : ℕ) (seen : List (List ℕ)) (index : Index t ix n seen) (r : Bool) (told : r ≡ ltb (numbersIn t ix n (stretch t start end)) n) where
   is-seen : among (stretch t start end) seen ≡ r
@@ -184,7 +186,8 @@ module _ (t list : List ℕ) (i place p : ℕ) (e : p ≡ placeIn list i) where
         there = λ a b l m.
             let c : start + 1 + b - (start + 1 + a) ≡ b - a = omega arith in
             let d : length v ≤ endIn list i - startIn list i = rw (q, length-take) (omega arith) in
-            let w : take (b - a) (drop a (drop 1 (drop (startIn list i) t))) ≡ take (b - a) (drop (start + 1 + a) t) = rw (drop-drop 1 (startIn list i) t, drop-drop a (startIn list i + 1) t, y) refl in
+            let w : take (b - a) (drop a (drop 1 (drop (startIn list i) t))) ≡ take (b - a) (drop (start + 1 + a) t) = rw
+            (drop-drop 1 (startIn list i) t, drop-drop a (startIn list i + 1) t, y) refl in
             rw c (sym (
             ap (λ (x : List ℕ). take (b - a) (drop a x)) (in-brackets l)
             ∙ ap (λ (x : List ℕ). take (b - a) (drop a (take (length v - 2) (drop 1 x)))) q
@@ -271,7 +274,8 @@ module _ (t list ix : List ℕ) (i : ℕ) (naming : Naming) where
     pub room-domains : (n : ℕ) → namesAt + nameSize * (n + length (named naming (fieldAt t list i))) ≤ length ix → namesAt + nameSize * (n + length (namedAt one other (fieldAt t list i))) ≤ length ix
     room-domains n h = rw e at h
 
-    pub from-domains : (r : Entered) → EnteredAs t ix (namesTo (namedAt one other) t list i) (namedAt one other (fieldAt t list i)) r → EnteredAs t ix (namesTo (named naming) t list i) (named naming (fieldAt t list i)) r
+    pub from-domains : (r : Entered) → EnteredAs t ix (namesTo (namedAt one other) t list i) (namedAt one other (fieldAt t list i)) r
+        → EnteredAs t ix (namesTo (named naming) t list i) (named naming (fieldAt t list i)) r
     from-domains r h = rw e h
 
   module _ (place : ℕ) (e : naming ≡ Members place) where
@@ -281,7 +285,8 @@ module _ (t list ix : List ℕ) (i : ℕ) (naming : Naming) where
     pub room-members : (n : ℕ) → namesAt + nameSize * (n + length (named naming (fieldAt t list i))) ≤ length ix → namesAt + nameSize * (n + length (membersNamed place (fieldAt t list i))) ≤ length ix
     room-members n h = rw e at h
 
-    pub from-members : (r : Entered) → EnteredAs t ix (namesTo (membersNamed place) t list i) (membersNamed place (fieldAt t list i)) r → EnteredAs t ix (namesTo (named naming) t list i) (named naming (fieldAt t list i)) r
+    pub from-members : (r : Entered) → EnteredAs t ix (namesTo (membersNamed place) t list i) (membersNamed place (fieldAt t list i)) r
+        → EnteredAs t ix (namesTo (named naming) t list i) (named naming (fieldAt t list i)) r
     from-members r h = rw e h
 
 -- ---- field by field
@@ -308,7 +313,8 @@ module _ (names : Field → List (List ℕ)) (t list : List ℕ) (n : ℕ) where
     pub field-room : (ix : List ℕ) (k l : ℕ) → Index t ix k (namesTo names t list i) → length ix ≡ l → namesAt + nameSize * length (namesTo names t list n) ≤ l
         → namesAt + nameSize * (k + length (names (fieldAt t list i))) ≤ length ix
     field-room ix k l index e room =
-        let a : length (namesTo names t list (i + 1)) ≡ length (namesTo names t list i) + length (names (fieldAt t list i)) = ap length (names-more t list names i) ∙ length-append (namesTo names t list i) (names (fieldAt t list i)) in
+        let a : length (namesTo names t list (i + 1)) ≡ length (namesTo names t list i) + length (names (fieldAt t list i)) = ap length
+        (names-more t list names i) ∙ length-append (namesTo names t list i) (names (fieldAt t list i)) in
         omega (arith, index .count, names-fewer t list names (i + 1) n (omega arith))
 
     module _ (ix : List ℕ) (r : Entered) (q : EnteredAs t ix (namesTo names t list i) (names (fieldAt t list i)) r) where

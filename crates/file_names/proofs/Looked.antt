@@ -138,7 +138,8 @@ module _ (file : List Field) where
   unfolding fieldAt
   names-unknown t list oix six fix i o s f r maps e =
       e
-      ∙ (λ j. unknownBy (λ x. known-is (maps .of-subjects .index) x j) (λ x. known-is (maps .of-objects .index) x j) (λ x. element-is (maps .of-functions .index) x j) (soughtAt (placeIn list i)) (valueIn t list i))
+      ∙ (λ j. unknownBy (λ x. known-is (maps .of-subjects .index) x j) (λ x. known-is (maps .of-objects .index) x j)
+      (λ x. element-is (maps .of-functions .index) x j) (soughtAt (placeIn list i)) (valueIn t list i))
       ∙ by-the-file (fieldAt t list i)
 
 -- ---- the scan
@@ -147,7 +148,8 @@ pub unknown-first : (fs : List Field) → firstWith (namesUnknown fs) fs ≡ unk
 unfolding unknownName
 unknown-first fs = refl
 
-module _ (file : List Field) (t list oix six fix : List ℕ) (i n o s f whole : ℕ) (r : Bool) (maps : Maps t file oix six fix o s f) (inv : firstWith (namesUnknown file) (between t list i n) ≡ whole) (h : i < n)
+module _ (file : List Field) (t list oix six fix : List ℕ) (i n o s f whole : ℕ) (r : Bool) (maps : Maps t file oix six fix o s f)
+    (inv : firstWith (namesUnknown file) (between t list i n) ≡ whole) (h : i < n)
     (told : r ≡ unknownBy (knownIn t six s false) (knownIn t oix o false) (knownIn t fix f true) (soughtAt (placeIn list i)) (valueIn t list i)) where
   pub unknown-here : (line : ℕ) → r ≡ true → line ≡ lineIn list i → line ≡ whole
   unknown-here = scan-here (namesUnknown file) t list n i whole inv h r (names-unknown file t list oix six fix i o s f r maps told)

@@ -46,17 +46,17 @@ module _ (t list : List ℕ) (n : ℕ) (sound : Sound t list n) (limits : overLi
   abbrev counts : Counted fs
   counts = counted fs (sound .numbered) limits
 
-  both-fit : (size : ℕ) → 2049 ≤ size → namesAt + nameSize * length (flatMap (namedAt objectName subjectName) fs) ≤ size
+  both-fit : (size : ℕ) → 2817 ≤ size → namesAt + nameSize * length (flatMap (namedAt objectName subjectName) fs) ≤ size
   both-fit size h = omega (arith, domains-total objectName subjectName fs, counts .objectDomains, counts .subjectDomains)
 
-  objects-fit : (size : ℕ) → 5121 ≤ size → namesAt + nameSize * length (flatMap (membersNamed objectMembers) fs) ≤ size
+  objects-fit : (size : ℕ) → 8193 ≤ size → namesAt + nameSize * length (flatMap (membersNamed objectMembers) fs) ≤ size
   objects-fit size h = omega (arith, members-total objectMembers fs, counts .objects)
 
-  pub room-for-both : (m : ℕ) → namesAt + nameSize * length (namesTo (namedAt 2 5) t list n) ≤ length (set (replicate 2049 0) 0 m)
-  room-for-both m = both-fit (length (set (replicate 2049 0) 0 m)) (omega (arith, cleared-length 2049 m))
+  pub room-for-both : (m : ℕ) → namesAt + nameSize * length (namesTo (namedAt 2 5) t list n) ≤ length (set (replicate 2817 0) 0 m)
+  room-for-both m = both-fit (length (set (replicate 2817 0) 0 m)) (omega (arith, cleared-length 2817 m))
 
-  pub room-for-objects : (m : ℕ) → namesAt + nameSize * length (namesTo (membersNamed 3) t list n) ≤ length (set (replicate 5121 0) 0 m)
-  room-for-objects m = objects-fit (length (set (replicate 5121 0) 0 m)) (omega (arith, cleared-length 5121 m))
+  pub room-for-objects : (m : ℕ) → namesAt + nameSize * length (namesTo (membersNamed 3) t list n) ≤ length (set (replicate 8193 0) 0 m)
+  room-for-objects m = objects-fit (length (set (replicate 8193 0) 0 m)) (omega (arith, cleared-length 8193 m))
 
   pub both-line : (ix : List ℕ) (r : Indexed) → IndexedAs (namedAt 2 5) t ix fs r → r .twice ≡ repeated domainNamed [] fs
   both-line ix r indexed = rw named-both at (indexed .line)
@@ -82,7 +82,8 @@ module _ (t list : List ℕ) (n : ℕ) (sound : Sound t list n) (limits : overLi
   -- ---- the indexes
 
   -- an index of what the fields name, where no name stands twice
-  module _ (names : Field → List (List ℕ)) (limit : ℕ) (few : length (flatMap names fs) ≤ limit) (ix₀ ix : List ℕ) (fresh : Fresh t ix₀ limit) (same : length ix ≡ length ix₀) (r : Indexed) (indexed : IndexedAs names t ix fs r) where
+  module _ (names : Field → List (List ℕ)) (limit : ℕ) (few : length (flatMap names fs) ≤ limit) (ix₀ ix : List ℕ) (fresh : Fresh t ix₀ limit)
+      (same : length ix ≡ length ix₀) (r : Indexed) (indexed : IndexedAs names t ix fs r) where
     within-limit : r .names ≤ limit
     within-limit = omega (arith, indexed .few)
 
@@ -160,6 +161,7 @@ module _ (t list : List ℕ) (n : ℕ) (sound : Sound t list n) (limits : overLi
 
 -- ---- room for the names that went in
 
-pub went-room : (t : List ℕ) (fs : List Field) (oix oix₀ six six₀ fix : List ℕ) (r : Names) → MapsTo t fs oix six fix r → Fresh t oix₀ 128 → Fresh t six₀ 128 → length oix ≡ length oix₀ → length six ≡ length six₀
+pub went-room : (t : List ℕ) (fs : List Field) (oix oix₀ six six₀ fix : List ℕ) (r : Names) → MapsTo t fs oix six fix r → Fresh t oix₀ 128
+    → Fresh t six₀ 128 → length oix ≡ length oix₀ → length six ≡ length six₀
     → (namesAt + nameSize * r .objects ≤ length oix) × (namesAt + nameSize * r .subjects ≤ length six)
 went-room t fs oix oix₀ six six₀ fix r maps of sf a b = (omega (arith, maps .few-objects, of .room), omega (arith, maps .few-subjects, sf .room))

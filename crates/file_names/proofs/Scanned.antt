@@ -2,7 +2,7 @@
 use mathlib.Core.Path.{_≡_, refl, sym, ap, _∙_}
 use mathlib.Core.Bool.{Bool, true, false, cond, _||_}
 use mathlib.Core.List.{List, [], _∷_, _++_}
-use Prim.Native.Nat.{ℕ, _+_, _-_, _<_, _≤_}
+use Prim.Native.Nat.{ℕ, _+_, _<_, _≤_}
 use native.Mathlib.Omega.{arith}
 use lib.Dec.{eqb}
 use lib.ListN.{length, length-take, length-drop}
@@ -74,14 +74,6 @@ module _ (place : ℕ) where
       go : (b : Bool) → b ≡ (b || false)
       go true = refl
       go false = refl
-
-  pub first-context : place ≡ 11 → true ≡ anyOf (eqb place) callContexts
-  unfolding anyOf callContexts
-  first-context h = rw (eq-eqb place 11 h) refl
-
-  pub other-contexts : (b : Bool) → (place ≡ 11 → ⊥) → b ≡ anyOf (eqb place) (19 ∷ 25 ∷ []) → b ≡ anyOf (eqb place) callContexts
-  unfolding anyOf callContexts
-  other-contexts b h e = rw (ne-eqb place 11 h) e
 
   pub seeks-subject : place ≡ 9 → Subject ≡ soughtAt place
   unfolding soughtAt

@@ -41,14 +41,15 @@ pub struct Indexed {
 fn enter(t: &[u8], ix: &mut [usize], n: usize, start: usize, end: usize) -> bool
     requires { ⌜ namesAt + nameSize * (n + 1) ≤ length (now ix) ⌝ }
     ensures { λ r. ⌜ (r ≡ ltb (numbersIn (now (t .entry)) (now (ix .entry)) n (take (end - start) (drop start (now (t .entry))))) n) ⌝ }
-    ensures { λ r. ⌜ now (ix .exit) ≡ cond r (now (ix .entry)) (inserted (now (ix .entry)) n start end (hashOf (multiplierIn (now (ix .entry))) (take (end - start) (drop start (now (t .entry)))))) ⌝ }
+    ensures { λ r. ⌜ now (ix .exit) ≡ cond r (now (ix .entry)) (inserted (now (t .entry)) (now (ix .entry)) n start end (hashOf (multiplierIn (now (ix .entry))) (take (end - start) (drop start (now (t .entry)))))) ⌝ }
 {
     let name = text_bytes::part(t, start, end);
-    if file_index::number_in(t, ix, n, name) < n {
+    let h = file_index::hash(ix[file_index::layout::MULTIPLIER_AT], name);
+    let place = file_index::way_end(t, ix, n, h, name);
+    if place < n {
         return true;
     }
-    let h = file_index::hash(ix[file_index::layout::MULTIPLIER_AT], name);
-    file_index::insert(ix, n, start, end, h);
+    file_index::insert(ix, n, place - n, start, end, h);
     false
 }
 

@@ -8,6 +8,7 @@ use crate::indexes::index_domains;
 use crate::indexes::index_members;
 use crate::lists::lists_line;
 use file_fields::earlier;
+use file_index::MULTIPLIER;
 use file_index::layout;
 use paper::limit;
 use text_keys::rows;
@@ -23,9 +24,6 @@ ghost use Rattle.file_fields.specs.Fields.{between};
 ghost use Rattle.file_index.specs.Maps.{Maps};
 ghost use Rattle.file_names.specs.Naming.{Sound};
 ghost use Rattle.file_names.specs.Mapping.{Fresh, MapsTo, Distinct};
-
-// Whoever clears an index puts this into its first word.
-pub const MULTIPLIER: usize = 65599;
 
 // Room for so many names in an index.
 const DOMAINS_SIZE: usize = layout::NAMES_AT + layout::NAME_SIZE * limit::DOMAINS * 2;

@@ -8,6 +8,7 @@ use file_fields::values::inside;
 use file_index::number_in;
 use paper::Operation;
 use paper::limit;
+use table::layout;
 use text_lines::NO_LINE;
 use text_lists::Element;
 ghost use mathlib.Core.Path.{_≡_};
@@ -22,16 +23,13 @@ ghost use Rattle.file_fields.specs.Fields.{fieldSize, fieldAt, between, wellSpa
 ghost use Rattle.file_index.specs.Words.{namesAt, nameSize};
 ghost use Rattle.file_names.specs.Naming.{Sound};
 
-// Words for a bit of each domain that a map can have.
-const SET_SIZE: usize = 8;
-
 // No name stands in the list twice, for no two have one number. Where two have, or one has none, nothing is said.
 pub fn distinct(t: &[u8], ix: &[usize], n: usize, s: &[u8]) -> bool
     requires { ⌜ spaced 0 (now s) ≡ true ⌝ }
     requires { ⌜ namesAt + nameSize * n ≤ length (now ix) ⌝ }
     ensures { λ r. ⌜ (r ≡ true → repeats [] (elementsIn (now (s .entry))) ≡ false) ⌝ }
 {
-    let mut seen = [0u16; SET_SIZE];
+    let mut seen = [0u16; layout::SET_SIZE];
     let mut at = text_lists::first_element(s);
     loop {
         match text_lists::element_at(s, at) {

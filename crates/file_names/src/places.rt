@@ -1,10 +1,10 @@
 // What the names at a place are looked up in.
+use file_fields::is_call_context;
 use text_keys::rows;
 ghost use mathlib.Core.Path.{_≡_};
 ghost use mathlib.Core.List.{[], _∷_};
 ghost use lib.Dec.{eqb};
 ghost use Rattle.paper.specs.Common.{anyOf};
-ghost use Rattle.paper.specs.Entries.{callContexts};
 ghost use Rattle.file_names.specs.Looking.{soughtAt};
 
 // At a place stands one subject domain, a list of subject or object domains, or a pattern of functions.
@@ -23,15 +23,6 @@ pub fn is_either(place: usize, one: usize, other: usize) -> bool
         return true;
     }
     place == other
-}
-
-fn is_call_context(place: usize) -> bool
-    ensures { λ r. ⌜ r ≡ anyOf (eqb place) callContexts ⌝ }
-{
-    if place == rows::EXECUTION_CALL_CONTEXT {
-        return true;
-    }
-    is_either(place, rows::READ_CALL_CONTEXT, rows::WRITE_CALL_CONTEXT)
 }
 
 pub fn sought_at(place: usize) -> Sought

@@ -1,5 +1,5 @@
 -- What the rules and the table ask of the fields of a text, from what its page and the rules before them give.
-use mathlib.Core.Path.{_≡_, refl, sym, ap, _∙_}
+use mathlib.Core.Path.{_≡_, refl, sym, _∙_}
 use mathlib.Core.List.{List}
 use Prim.Native.Nat.{ℕ, _+_, _*_, _≤_}
 use native.Mathlib.Omega.{arith}
@@ -27,11 +27,11 @@ module _ (t : List ℕ) where
   fresh : (most size : ℕ) → namesAt + nameSize * most ≤ size → (m : ℕ) → Fresh t (set (replicate size 0) multiplierAt m) most
   fresh most size h m = record { empty = index-cleared t size m; room = rw (length-set, length-replicate) h }
 
-  pub fresh-domains : (m : ℕ) → Fresh t (set (replicate 1537 0) multiplierAt m) mostDomains
-  fresh-domains m = fresh mostDomains 1537 (omega arith) m
+  pub fresh-domains : (m : ℕ) → Fresh t (set (replicate 1921 0) multiplierAt m) mostDomains
+  fresh-domains m = fresh mostDomains 1921 (omega arith) m
 
-  pub fresh-members : (m : ℕ) → Fresh t (set (replicate 5121 0) multiplierAt m) mostMembers
-  fresh-members m = fresh mostMembers 5121 (omega arith) m
+  pub fresh-members : (m : ℕ) → Fresh t (set (replicate 8193 0) multiplierAt m) mostMembers
+  fresh-members m = fresh mostMembers 8193 (omega arith) m
 
 -- ---- a line that a rule names is one that a text can have
 

@@ -1,16 +1,15 @@
 -- A rule answers with a line of the file, so that the line is one that a text can have.
-use mathlib.Core.Path.{_≡_, refl, sym, ap, _∙_}
-use mathlib.Core.Bool.{Bool, true, false, cond, _&&_, _||_}
+use mathlib.Core.Path.{_≡_, refl}
+use mathlib.Core.Bool.{Bool, true, false, cond, _||_}
 use mathlib.Core.List.{List, [], _∷_, _++_, map}
 use Prim.Native.Nat.{ℕ, _+_, _≤_}
 use native.Mathlib.Omega.{arith}
 use lib.Dec.{eqb, ltb, leb}
-use lib.ListN.{getD}
-use borrow.Author.Tests.{leb-true, le-leb}
+use borrow.Author.Tests.{leb-true}
 use Rattle.paper.specs.Common.{allOf, anyOf}
 use Rattle.paper.specs.Limits.{textBytes}
 use Rattle.paper.specs.Listing.{objectName, subjectName, objectMembers, subjectMembers, principal}
-use Rattle.paper.specs.Page.{Field, noField}
+use Rattle.paper.specs.Page.{Field}
 use Rattle.paper.specs.Entries.{entriesOf, lineOfEntry}
 use Rattle.paper.specs.Rules.{earlier, earliest, firstWith, passing, repeats, repeated, samePrincipal, twinAfter, isUnbound}
 use Rattle.paper.specs.Rules.{overLimit, namedTwice, unknownName, unboundVariable, twinPrincipal, namesUnknown, longPattern, repeatsInList, oneAt, membersAt, descriptorsIn, domainNamed, membersNamed}

@@ -1,9 +1,9 @@
 -- A value that is right for its place is, where it is a list, spaced as a list is.
-use mathlib.Core.Path.{_≡_, refl, sym, ap, _∙_}
+use mathlib.Core.Path.{_≡_, refl, sym, _∙_}
 use mathlib.Core.Bool.{Bool, true, false, cond, not, _&&_, _||_}
-use mathlib.Core.Logic.{_⊎_, ⊎-elim}
+use mathlib.Core.Logic.{⊎-elim}
 use mathlib.Core.List.{List, [], _∷_}
-use Prim.Native.Nat.{ℕ, zero, suc, _-_}
+use Prim.Native.Nat.{ℕ, suc, _-_}
 use native.Mathlib.Omega.{arith}
 use lib.Dec.{eqb, leb}
 use lib.ListN.{length, getD}
@@ -134,7 +134,8 @@ module _ (v : List ℕ) where
   fault-free-spaced AllNoneOrItems h =
       passed (is "all" v || (is "[]" v || false)) 0 4 h
       (λ e. ⊎-elim (λ (a : is "all" v ≡ true). all-spaced v a)
-      (λ (a : (is "[]" v || false) ≡ true). ⊎-elim (λ (b : is "[]" v ≡ true). none-spaced v b) (λ (b : false ≡ true). absurd-test (sym b)) (either-of (is "[]" v) false a)) (either-of (is "all" v) (is "[]" v || false) e))
+      (λ (a : (is "[]" v || false) ≡ true). ⊎-elim (λ (b : is "[]" v ≡ true). none-spaced v b) (λ (b : false ≡ true). absurd-test (sym b))
+      (either-of (is "[]" v) false a)) (either-of (is "all" v) (is "[]" v || false) e))
       (λ z. absurd (omega arith))
   fault-free-spaced (One s) h = passed (isScalar s v) 0 5 h (scalar-spaced s) (λ z. absurd (omega arith))
   fault-free-spaced (ListOf s) h = list-spaced s h

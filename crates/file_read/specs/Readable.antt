@@ -2,7 +2,6 @@
 use mathlib.Core.Path.{_≡_}
 use mathlib.Core.List.{List}
 use mathlib.Core.Bool.{Bool, true}
-use Prim.Native.Nat.{_+_}
 use lib.Dec.{leb}
 use Rattle.paper.specs.Common.{allOf}
 use Rattle.paper.specs.Limits.{textBytes}

@@ -3,10 +3,10 @@ use file_entries::twin_line;
 use file_entries::unbound_line;
 use file_fields::Found;
 use file_fields::list_fields;
+use file_index::MULTIPLIER;
 use file_index::layout;
 use file_limits::over_limit;
 use file_names::MEMBERS_SIZE;
-use file_names::MULTIPLIER;
 use file_names::Names;
 use file_names::index_names;
 use file_names::unknown::unknown_line;
@@ -108,7 +108,7 @@ fn read_named(
 }
 
 // The rules over the whole file, and then the table.
-fn read_fields(t: &[u8], list: &[usize], n: usize, table: &mut [u16]) -> Reading
+pub fn read_fields(t: &[u8], list: &[usize], n: usize, table: &mut [u16]) -> Reading
     requires { ⌜ Sound (now t) (now list) n ⌝ }
     requires { ⌜ n ≤ mostFields ⌝ }
     requires { ⌜ Readable (between (now t) (now list) 0 n) ⌝ }

@@ -1,8 +1,7 @@
 -- The descriptors of an entry's reads, then of its writes, and those of all entries, one behind the other.
 use mathlib.Core.Path.{_≡_, refl, sym, ap, _∙_}
 use mathlib.Core.Bool.{Bool, true, false}
-use mathlib.Core.Logic.{_⊎_}
-use mathlib.Core.List.{List, [], _∷_, _++_, map, flatMap, append-nil}
+use mathlib.Core.List.{List, [], _∷_, _++_, flatMap, append-nil}
 use Prim.Native.Nat.{ℕ, _+_, _-_, _*_, _^_, _<_, _≤_}
 use native.Mathlib.Omega.{arith}
 use mir.Syntax.{w64}
@@ -21,13 +20,14 @@ use Rattle.paper.specs.Table.{descriptorSize, descriptorsSize, padded, descript
 use Rattle.laws.proofs.Places.{drop-zeros}
 use Rattle.laws.proofs.Stretches.{length-padded}
 use Rattle.laws_file.specs.Accepted.{total}
+use Rattle.file_fields.specs.Places.{IsAccess}
 use Rattle.file_fields.specs.Fields.{between, nextAt, valueOr, wellSpaced}
 use Rattle.file_fields.proofs.Between.{between-none}
 use Rattle.file_fields.proofs.Accesses.{access-value, one-descriptor}
 use Rattle.file_table.specs.Blocks.{itemBlocks, accessBlocks, ownBlocks, descriptorBlocks, Filled}
 use Rattle.file_table.specs.Ready.{Ready, Bounded}
 use Rattle.file_table.proofs.Writing.{take-zeros, Written, written-none, written-padded, written-all, written-length, left-zeros, left-room, zeros-length}
-use Rattle.file_table.proofs.Walking.{Walked, walked}
+use Rattle.file_fields.proofs.Walking.{Walked, walked}
 use Rattle.file_table.proofs.Fitting.{stretch-spaced, item-pattern, item-size}
 use Rattle.file_table.proofs.Entered.{entries-first, entries-more, entries-none, total-more, both-counts}
 
@@ -45,7 +45,8 @@ items-counted : (access : ℕ) (entry : List Field) → is "all" (valueAt access
 unfolding descriptorsOf
 items-counted access entry e = rw e refl
 
-module _ (access : ℕ) (which : (access ≡ canRead) ⊎ (access ≡ canWrite)) (t list : List ℕ) (from to : ℕ) (v : List ℕ) (e : v ≡ valueOr (bytes "all") (bytes "[]") access (between t list from to)) (r : Bool)
+module _ (access : ℕ) (which : IsAccess access) (t list : List ℕ) (from to : ℕ) (v : List ℕ)
+    (e : v ≡ valueOr (bytes "all") (bytes "[]") access (between t list from to)) (r : Bool)
     (q : r ≡ is "all" v) where
   said : is "all" (valueAt access (between t list from to)) ≡ r
   said = rw (← access-value access which t list from to v e r q, ← q) refl
@@ -58,11 +59,12 @@ module _ (access : ℕ) (which : (access ≡ canRead) ⊎ (access ≡ canWrite))
     items-room h = omega (arith, items-counted access (between t list from to) (said ∙ h))
 
 -- no field at all stands between a number and itself
-module _ (t list : List ℕ) (n : ℕ) (objectIx : List ℕ) (objects : ℕ) (functionIx : List ℕ) (functions : ℕ) (ready : Ready objectName t list n objectIx objects functionIx functions) (to : ℕ) (b : to ≤ n) where
+module _ (t list : List ℕ) (n : ℕ) (objectIx : List ℕ) (objects : ℕ) (functionIx : List ℕ) (functions : ℕ)
+    (ready : Ready objectName t list n objectIx objects functionIx functions) (to : ℕ) (b : to ≤ n) where
   pub none-spaced : allOf wellSpaced (between t list to to) ≡ true
   none-spaced = stretch-spaced objectName t list n objectIx objects functionIx functions ready to to (omega arith) b
 
-  module _ (access : ℕ) (which : (access ≡ canRead) ⊎ (access ≡ canWrite)) where
+  module _ (access : ℕ) (which : IsAccess access) where
     pub none-short : length (elements (valueAt (callContextIn (objectContextIn access)) (between t list to to))) ≤ mostElements
     none-short = item-pattern objectName t list n objectIx objects functionIx functions ready to to (omega arith) b access which
 
@@ -88,13 +90,18 @@ module _ (t list : List ℕ) (n : ℕ) (objectIx : List ℕ) (objects : ℕ) (fu
             record {
               counted = one-descriptor access which t list from to v e r q h;
               long = rw (words, none-size) refl;
-              holds = rw (words, given, none-size) (ap (λ (l : List ℕ). descriptorWords (descriptorOf (between t list 0 n) access []) ++ l) (ap (drop descriptorSize) zeros ∙ drop-zeros (length old) descriptorSize));
+              holds = rw (words, given, none-size) (ap (λ (l : List ℕ). descriptorWords (descriptorOf (between t list 0 n) access []) ++ l)
+                  (ap (drop descriptorSize) zeros ∙ drop-zeros (length old) descriptorSize));
             }
 
         pub items-filled : (new : List ℕ) (d : ℕ) → r ≡ false
             → Filled descriptorSize (length (itemsOf access (between t list from to))) (itemBlocks (between t list 0 n) access (itemsOf access (between t list from to))) old new d
             → Filled descriptorSize (descriptorsOf access (between t list from to)) (accessBlocks (between t list 0 n) access (between t list from to)) old new d
-        items-filled new d h f = rw (items-counted access (between t list from to) (said access which t list from to v e r q ∙ h), items-blocks (between t list 0 n) access (between t list from to) (said access which t list from to v e r q ∙ h)) f
+        items-filled new d h f = rw (
+          items-counted access (between t list from to) (said access which t list from to v e r q ∙ h),
+          items-blocks
+              (between t list 0 n) access (between t list from to) (said access which t list from to v e r q ∙ h),
+        ) f
 
 -- ---- both of an entry
 
@@ -102,7 +109,8 @@ module _ (t list : List ℕ) (n from to : ℕ) (old : List ℕ) (enough : descri
   pub reads-room : descriptorSize * descriptorsOf canRead (between t list from to) ≤ length old
   reads-room = omega (arith, both-counts (between t list from to))
 
-  module _ (new : List ℕ) (reads : ℕ) (f : Filled descriptorSize (descriptorsOf canRead (between t list from to)) (accessBlocks (between t list 0 n) canRead (between t list from to)) old new reads) where
+  module _ (new : List ℕ) (reads : ℕ) (f : Filled descriptorSize (descriptorsOf canRead (between t list from to))
+      (accessBlocks (between t list 0 n) canRead (between t list from to)) old new reads) where
     reads-within : descriptorSize * reads ≤ length old
     reads-within = omega (arith, reads-room, f .counted)
 
@@ -143,7 +151,8 @@ module _ (t list : List ℕ) (n from to : ℕ) (old : List ℕ) (enough : descri
           Filled descriptorSize (descriptorsIn (between t list from to)) (ownBlocks (between t list 0 n) (between t list from to)) old
           (take (descriptorSize * reads) new ++ (y ++ drop (length new - descriptorSize * reads) (drop (descriptorSize * reads) new))) (reads + writes)
       both-filled =
-          let w = written-padded reads-written y (accessBlocks (between t list 0 n) canWrite (between t list from to)) [] (sym (append-nil (accessBlocks (between t list 0 n) canWrite (between t list from to)))) (g .holds)
+          let w = written-padded reads-written y (accessBlocks (between t list 0 n) canWrite (between t list from to)) []
+          (sym (append-nil (accessBlocks (between t list 0 n) canWrite (between t list from to)))) (g .holds)
           (omega (arith, both-within, g .long)) in
           record {
             counted = omega (arith, both-counts (between t list from to), f .counted, g .counted);
@@ -172,7 +181,8 @@ total-none = refl
 pub record DescriptorsWritten (t list : List ℕ) (n from d : ℕ) (out : List ℕ) : Type 0 where
   pub walk : Walked list principal from n
   pub count : d + total descriptorsIn (entriesOf (between t list from n)) ≡ total descriptorsIn (entriesOf (between t list 0 n))
-  pub done : Written descriptorsSize (descriptorSize * d) (descriptorBlocks (between t list 0 n) (entriesOf (between t list 0 n))) (descriptorBlocks (between t list 0 n) (entriesOf (between t list from n))) out
+  pub done : Written descriptorsSize (descriptorSize * d) (descriptorBlocks (between t list 0 n) (entriesOf (between t list 0 n)))
+      (descriptorBlocks (between t list 0 n) (entriesOf (between t list from n))) out
 
 pub descriptors-begin : (t list : List ℕ) (n from : ℕ) (out : List ℕ) → from ≡ nextAt list principal 0 (n - 0) → out ≡ replicate descriptorsSize 0 → DescriptorsWritten t list n from 0 out
 descriptors-begin t list n from out e z =
@@ -201,19 +211,23 @@ module _ (t list : List ℕ) (n from d : ℕ) (out : List ℕ) (w : DescriptorsW
     descriptors-room = left-room (w .done) (descriptorSize * descriptorsIn (between t list from to)) own-room
 
     module _ (y : List ℕ) (more : ℕ)
-        (f : Filled descriptorSize (descriptorsIn (between t list from to)) (ownBlocks (between t list 0 n) (between t list from to)) (take (length out - descriptorSize * d) (drop (descriptorSize * d) out)) y more) where
+        (f : Filled descriptorSize (descriptorsIn (between t list from to)) (ownBlocks (between t list 0 n) (between t list from to))
+        (take (length out - descriptorSize * d) (drop (descriptorSize * d) out)) y more) where
       pub descriptors-number-fits : Fits w64 (d + more)
       descriptors-number-fits = omega (arith, own-room, f .counted)
 
       pub descriptors-again : DescriptorsWritten t list n to (d + more) (take (descriptorSize * d) out ++ (y ++ drop (length out - descriptorSize * d) (drop (descriptorSize * d) out)))
       descriptors-again =
-          let rest : descriptorBlocks (between t list 0 n) (entriesOf (between t list from n)) ≡ ownBlocks (between t list 0 n) (between t list from to) ++ descriptorBlocks (between t list 0 n) (entriesOf (between t list to n)) =
+          let rest : descriptorBlocks (between t list 0 n) (entriesOf (between t list from n)) ≡ ownBlocks (between t list 0 n)
+          (between t list from to) ++ descriptorBlocks (between t list 0 n) (entriesOf (between t list to n)) =
           rw (entries-more t list n from to (w .walk) h e, blocks-more) refl in
           let at : descriptorSize * (d + more) ≡ descriptorSize * d + length (ownBlocks (between t list 0 n) (between t list from to)) = omega (arith, f .long) in
           record {
             walk = walked list principal (from + 1) n to (omega arith) e;
             count = omega (arith, count-here, f .counted);
-            done = rw at (written-padded (w .done) y (ownBlocks (between t list 0 n) (between t list from to)) (descriptorBlocks (between t list 0 n) (entriesOf (between t list to n))) rest (f .holds) (omega (arith, own-room, f .long, f .counted)));
+            done = rw at (written-padded (w .done) y (ownBlocks (between t list 0 n) (between t list from to))
+                (descriptorBlocks (between t list 0 n) (entriesOf (between t list to n))) rest (f .holds)
+                (omega (arith, own-room, f .long, f .counted)));
           }
 
   pub descriptors-length : (old : List ℕ) → old ≡ replicate descriptorsSize 0 → length out ≡ length old

@@ -1,8 +1,7 @@
 -- The descriptors written so far, item by item, and the next one behind them.
-use mathlib.Core.Path.{_≡_, refl, sym, ap, _∙_}
+use mathlib.Core.Path.{_≡_, refl, ap}
 use mathlib.Core.Bool.{true}
-use mathlib.Core.Logic.{_⊎_}
-use mathlib.Core.List.{List, [], _∷_, _++_, map, flatMap}
+use mathlib.Core.List.{List, [], _∷_, _++_, flatMap}
 use Prim.Native.Nat.{ℕ, _+_, _-_, _*_, _^_, _<_, _≤_}
 use native.Mathlib.Omega.{arith}
 use mir.Syntax.{w64}
@@ -11,16 +10,17 @@ use lib.ListN.{length, take, drop, replicate}
 use Rattle.paper.specs.Common.{allOf}
 use Rattle.paper.specs.Limits.{mostElements}
 use Rattle.paper.specs.Lists.{elements}
-use Rattle.paper.specs.Listing.{objectName, canRead, canWrite, callContextIn, objectContextIn}
+use Rattle.paper.specs.Listing.{objectName, callContextIn, objectContextIn}
 use Rattle.paper.specs.Page.{Field}
 use Rattle.paper.specs.Entries.{valueAt, itemsOf}
 use Rattle.paper.specs.Policy.{descriptorOf}
 use Rattle.paper.specs.Table.{descriptorSize, descriptorWords}
+use Rattle.file_fields.specs.Places.{IsAccess}
 use Rattle.file_fields.specs.Fields.{between, nextAt, wellSpaced}
 use Rattle.file_table.specs.Blocks.{itemBlocks, Filled}
 use Rattle.file_table.specs.Ready.{Ready}
 use Rattle.file_table.proofs.Writing.{Written, written-none, written-more, written-all, written-length, unwritten}
-use Rattle.file_table.proofs.Walking.{Walked, walked, walk-order, walk-within, stretches-first, stretches-more, stretches-none}
+use Rattle.file_fields.proofs.Walking.{Walked, walked, walk-order, walk-within, stretches-first, stretches-more, stretches-none}
 use Rattle.file_table.proofs.Fitting.{stretch-spaced, item-pattern, item-size}
 
 -- ---- the items from a number on
@@ -96,11 +96,12 @@ module _ (t list : List ℕ) (n access from to i d : ℕ) (old out : List ℕ) (
         pub item-spaced : allOf wellSpaced (between t list i j) ≡ true
         item-spaced = stretch-spaced objectName t list n objectIx objects functionIx functions ready i j (walk-order list (access + 1) i to j e) item-within
 
-        module _ (which : (access ≡ canRead) ⊎ (access ≡ canWrite)) where
+        module _ (which : IsAccess access) where
           pub item-short : length (elements (valueAt (callContextIn (objectContextIn access)) (between t list i j))) ≤ mostElements
           item-short = item-pattern objectName t list n objectIx objects functionIx functions ready i j (walk-order list (access + 1) i to j e) item-within access which
 
-          pub items-again : (ys : List ℕ) → ys ≡ descriptorWords (descriptorOf (between t list 0 n) access (between t list i j)) → descriptorSize * length (itemsOf access (between t list from to)) ≤ length old
+          pub items-again : (ys : List ℕ) → ys ≡ descriptorWords (descriptorOf (between t list 0 n) access (between t list i j))
+              → descriptorSize * length (itemsOf access (between t list from to)) ≤ length old
               → ItemsWritten t list n access from to j (d + 1) (length old)
               (take (descriptorSize * d) out ++ (ys ++ drop (descriptorSize * d + descriptorSize - descriptorSize * d) (drop (descriptorSize * d) out)))
           items-again ys y enough =

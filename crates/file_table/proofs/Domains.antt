@@ -1,13 +1,13 @@
 -- The head, and the domains of a map's members: one number filled in for each list of members.
-use mathlib.Core.Path.{_≡_, refl, sym, ap, _∙_}
+use mathlib.Core.Path.{_≡_, refl, _∙_}
 use mathlib.Core.Bool.{Bool, true, false, cond}
 use mathlib.Core.List.{List, [], _∷_, _++_, append-nil}
-use Prim.Native.Nat.{ℕ, zero, suc, _+_, _-_, _*_, _^_, _<_, _≤_}
+use Prim.Native.Nat.{ℕ, zero, suc, _+_, _-_, _<_, _≤_}
 use native.Mathlib.Omega.{arith}
 use mir.Syntax.{w64}
 use mir.Val.{Fits}
 use lib.Dec.{eqb}
-use lib.ListN.{length, take, drop, set, replicate, length-append, length-take, length-drop, length-replicate, drop-of-length-le}
+use lib.ListN.{length, take, drop, set, replicate, length-append, length-replicate, drop-of-length-le}
 use borrow.Author.Fill.{fill-more}
 use borrow.Author.Tests.{eq-eqb}
 use Rattle.paper.specs.Limits.{mostMembers}
@@ -19,7 +19,7 @@ use Rattle.paper.specs.Table.{mark, headSize, padded}
 use Rattle.file_fields.specs.Fields.{placeIn, valueIn, fieldAt, between, nextAt}
 use Rattle.file_fields.proofs.Between.{between-more, between-none}
 use Rattle.file_table.proofs.Writing.{Written, written-none, written-more, written-all, written-length, unwritten, room, zeros-length}
-use Rattle.file_table.proofs.Walking.{Walked, walked, walked-place, walk-on}
+use Rattle.file_fields.proofs.Walking.{Walked, walked, walked-place, walk-on}
 
 -- ---- one number in every word
 

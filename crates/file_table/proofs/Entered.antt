@@ -1,25 +1,25 @@
 -- The entries written so far, and the next one behind them.
-use mathlib.Core.Path.{_≡_, refl, sym, ap, _∙_}
+use mathlib.Core.Path.{_≡_, refl, ap}
 use mathlib.Core.Bool.{true}
-use mathlib.Core.List.{List, [], _∷_, _++_, map, flatMap}
+use mathlib.Core.List.{List, [], _∷_, _++_, flatMap}
 use Prim.Native.Nat.{ℕ, _+_, _-_, _*_, _<_, _≤_}
 use native.Mathlib.Omega.{arith}
 use lib.ListN.{length, take, drop, replicate, length-replicate}
 use Rattle.paper.specs.Common.{allOf}
-use Rattle.paper.specs.Limits.{mostElements, mostEntries, mostDescriptors}
+use Rattle.paper.specs.Limits.{mostElements, mostDescriptors}
 use Rattle.paper.specs.Lists.{elements}
 use Rattle.paper.specs.Listing.{principal, subjectName, executionContext, canRead, canWrite, callContextIn}
 use Rattle.paper.specs.Page.{Field}
 use Rattle.paper.specs.Entries.{valueAt, entriesOf}
 use Rattle.paper.specs.Rules.{descriptorsOf, descriptorsIn}
 use Rattle.paper.specs.Policy.{entryOf}
-use Rattle.paper.specs.Table.{entrySize, entriesSize, padded, entryWords}
+use Rattle.paper.specs.Table.{entrySize, entriesSize, entryWords}
 use Rattle.laws_file.specs.Accepted.{total}
 use Rattle.file_fields.specs.Fields.{between, nextAt, wellSpaced}
 use Rattle.file_table.specs.Blocks.{entryBlocks, Filled}
 use Rattle.file_table.specs.Ready.{Ready, Bounded}
 use Rattle.file_table.proofs.Writing.{Written, written-none, written-more, written-all, written-length, unwritten, zeros-length}
-use Rattle.file_table.proofs.Walking.{Walked, walked, walk-order, walk-within, stretches-first, stretches-more, stretches-none}
+use Rattle.file_fields.proofs.Walking.{Walked, walked, walk-order, walk-within, stretches-first, stretches-more, stretches-none}
 use Rattle.file_table.proofs.Fitting.{stretch-spaced, entry-pattern, entry-size}
 
 -- ---- the entries from a number on

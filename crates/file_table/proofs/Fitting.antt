@@ -1,9 +1,9 @@
 -- What fits of a file's fields fits of those of a stretch, and its blocks have their sizes.
-use mathlib.Core.Path.{_≡_, refl, sym, ap, _∙_}
+use mathlib.Core.Path.{_≡_, refl}
 use mathlib.Core.Bool.{Bool, true, false, cond, not, _&&_}
 use mathlib.Core.Logic.{_⊎_, inl, inr, ⊎-elim}
-use mathlib.Core.List.{List, [], _∷_, map}
-use Prim.Native.Nat.{ℕ, _+_, _-_, _<_, _≤_}
+use mathlib.Core.List.{List, []}
+use Prim.Native.Nat.{ℕ, _-_, _≤_}
 use native.Mathlib.Omega.{arith}
 use lib.Dec.{eqb, ltb}
 use lib.ListN.{length, length-map}
@@ -21,6 +21,7 @@ use Rattle.laws.proofs.Tests.{both-left, both-right}
 use Rattle.laws.proofs.Counting.{allOf-weaker, allOf-counted, counted-allOf}
 use Rattle.laws_table.proofs.Entries.{length-entry, length-descriptor}
 use Rattle.laws_file.proofs.Stretched.{value-holds}
+use Rattle.file_fields.specs.Places.{IsAccess}
 use Rattle.file_fields.specs.Fields.{fieldAt, between, wellSpaced}
 use Rattle.file_table.specs.Ready.{fits, Ready}
 
@@ -70,7 +71,7 @@ execution-listed : anyOf (eqb (callContextIn executionContext)) callContexts ≡
 unfolding callContexts anyOf
 execution-listed = refl
 
-object-listed : (access : ℕ) → (access ≡ canRead) ⊎ (access ≡ canWrite) → anyOf (eqb (callContextIn (objectContextIn access))) callContexts ≡ true
+object-listed : (access : ℕ) → IsAccess access → anyOf (eqb (callContextIn (objectContextIn access))) callContexts ≡ true
 unfolding callContexts anyOf
 object-listed access which = ⊎-elim (λ (e : access ≡ canRead). rw e refl) (λ (e : access ≡ canWrite). rw e refl) which
 
@@ -82,7 +83,8 @@ writing = inr refl
 
 -- ---- of a file that is ready
 
-module _ (names : ℕ) (t list : List ℕ) (n : ℕ) (domainIx : List ℕ) (domains : ℕ) (functionIx : List ℕ) (functions : ℕ) (ready : Ready names t list n domainIx domains functionIx functions) (i j : ℕ) (a : i ≤ j)
+module _ (names : ℕ) (t list : List ℕ) (n : ℕ) (domainIx : List ℕ) (domains : ℕ) (functionIx : List ℕ) (functions : ℕ)
+    (ready : Ready names t list n domainIx domains functionIx functions) (i j : ℕ) (a : i ≤ j)
     (b : j ≤ n) where
   stretch-fits : allOf fits (between t list i j) ≡ true
   stretch-fits = between-all fits t list n i j (ready .fit) a b
@@ -93,7 +95,7 @@ module _ (names : ℕ) (t list : List ℕ) (n : ℕ) (domainIx : List ℕ) (doma
   pub entry-pattern : length (elements (valueAt (callContextIn executionContext) (between t list i j))) ≤ mostElements
   entry-pattern = short-value (callContextIn executionContext) execution-listed (between t list i j) stretch-fits
 
-  pub item-pattern : (access : ℕ) → (access ≡ canRead) ⊎ (access ≡ canWrite) → length (elements (valueAt (callContextIn (objectContextIn access)) (between t list i j))) ≤ mostElements
+  pub item-pattern : (access : ℕ) → IsAccess access → length (elements (valueAt (callContextIn (objectContextIn access)) (between t list i j))) ≤ mostElements
   item-pattern access which = short-value (callContextIn (objectContextIn access)) (object-listed access which) (between t list i j) stretch-fits
 
   entry-few : (file : List Field) → length (entryOf file (between t list i j) .context .pattern) ≤ mostElements
@@ -103,9 +105,9 @@ module _ (names : ℕ) (t list : List ℕ) (n : ℕ) (domainIx : List ℕ) (doma
   pub entry-size : (file : List Field) → length (entryWords (entryOf file (between t list i j))) ≡ entrySize
   entry-size file = length-entry (entryOf file (between t list i j)) (entry-few file)
 
-  item-few : (file : List Field) (access : ℕ) → (access ≡ canRead) ⊎ (access ≡ canWrite) → length (descriptorOf file access (between t list i j) .context .pattern) ≤ mostElements
+  item-few : (file : List Field) (access : ℕ) → IsAccess access → length (descriptorOf file access (between t list i j) .context .pattern) ≤ mostElements
   unfolding descriptorOf contextOf
   item-few file access which = rw length-map (item-pattern access which)
 
-  pub item-size : (file : List Field) (access : ℕ) → (access ≡ canRead) ⊎ (access ≡ canWrite) → length (descriptorWords (descriptorOf file access (between t list i j))) ≡ descriptorSize
+  pub item-size : (file : List Field) (access : ℕ) → IsAccess access → length (descriptorWords (descriptorOf file access (between t list i j))) ≡ descriptorSize
   item-size file access which = length-descriptor (descriptorOf file access (between t list i j)) (item-few file access which)

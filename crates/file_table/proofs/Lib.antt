@@ -1,6 +1,5 @@
 pub mod Writing
 pub mod Domains
-pub mod Walking
 pub mod Fitting
 pub mod Entered
 pub mod Described

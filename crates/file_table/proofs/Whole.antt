@@ -1,20 +1,20 @@
 -- The words of a file's policy are its blocks one behind the other, and each fits where it stands.
 use mathlib.Core.Path.{_≡_, refl, sym, ap, _∙_}
-use mathlib.Core.Bool.{Bool, true, false, not}
+use mathlib.Core.Bool.{true, false, not}
 use mathlib.Core.List.{List, [], _∷_, _++_, map, flatMap, append-assoc, append-nil}
-use Prim.Native.Nat.{ℕ, _+_, _-_, _*_, _≤_}
+use Prim.Native.Nat.{ℕ, _+_, _*_, _≤_}
 use native.Mathlib.Omega.{arith}
 use native.Mathlib.Nat.{zero-add}
 use lib.ListN.{length, take, drop, replicate, length-map, length-append, length-replicate, drop-of-length-le}
 use Rattle.paper.specs.Common.{allOf}
-use Rattle.paper.specs.Limits.{mostDomains, mostMembers, mostEntries, mostDescriptors, tableWords}
+use Rattle.paper.specs.Limits.{mostMembers, mostEntries, tableWords}
 use Rattle.paper.specs.Text.{noLine}
 use Rattle.paper.specs.Listing.{objectName, objectMembers, subjectName, subjectMembers, principal, canRead, canWrite}
 use Rattle.paper.specs.Page.{Field}
 use Rattle.paper.specs.Entries.{fieldsAt, entriesOf}
 use Rattle.paper.specs.Rules.{descriptorsIn, longPattern, overLimit, domainsAt, identifiersAt, repeats}
 use Rattle.paper.specs.Policy.{accessOf, entryOf, memberDomains, policyOf}
-use Rattle.paper.specs.Table.{mark, headSize, objectsAt, functionsAt, entriesAt, descriptorsAt, entrySize, entriesSize, descriptorSize, descriptorsSize, padded, entryWords, descriptorWords, wordsOf}
+use Rattle.paper.specs.Table.{mark, headSize, objectsAt, entriesAt, entrySize, entriesSize, descriptorSize, descriptorsSize, padded, descriptorWords, wordsOf}
 use Rattle.laws.proofs.Counting.{flatMap-append}
 use Rattle.laws.proofs.Stretches.{length-padded}
 use Rattle.laws_page.specs.Right.{isNumbered}
@@ -114,7 +114,8 @@ module _ (a b : ℕ) (one out y₁ : List ℕ) (z : out ≡ replicate (a + b) 0)
 
 -- ---- the blocks one behind the other
 
-module _ (file : List Field) (numbered : allOf isNumbered file ≡ true) (limits : overLimit file ≡ noLine) (table : List ℕ) (room : tableWords ≤ length table) (zeros : take tableWords table ≡ replicate tableWords 0) where
+module _ (file : List Field) (numbered : allOf isNumbered file ≡ true) (limits : overLimit file ≡ noLine) (table : List ℕ)
+    (room : tableWords ≤ length table) (zeros : take tableWords table ≡ replicate tableWords 0) where
   maps-size : length (mapBlocks file) ≡ mapsSize
   unfolding mapBlocks
   maps-size =
@@ -166,7 +167,8 @@ module _ (file : List Field) (numbered : allOf isNumbered file ≡ true) (limits
       head-unwritten = front-zeros headSize (y₁ ++ y₂) (drop tableWords table) table₂ [] whole
 
       module _ (t objectIx subjectIx functionIx : List ℕ) (objects subjects functions : ℕ) (maps : Maps t file objectIx subjectIx functionIx objects subjects functions) (members entries : ℕ)
-          (c : members ≡ length (objectWords file)) (d : entries ≡ length (entriesOf file)) (y₃ : List ℕ) (e₃ : y₃ ≡ padded headSize (mark ∷ objects ∷ subjects ∷ members ∷ functions ∷ entries ∷ [])) where
+          (c : members ≡ length (objectWords file)) (d : entries ≡ length (entriesOf file)) (y₃ : List ℕ)
+          (e₃ : y₃ ≡ padded headSize (mark ∷ objects ∷ subjects ∷ members ∷ functions ∷ entries ∷ [])) where
         counts : y₃ ≡ padded headSize (headWords file)
         unfolding identifiersAt
         counts =
@@ -205,7 +207,8 @@ module _ (out : List ℕ) (l : length out ≡ privilegesSize) (z : out ≡ repli
   pub entries-unwritten : take entriesSize (drop 0 out) ≡ replicate entriesSize 0
   entries-unwritten = rw privileges-out (take-zeros entriesSize (entriesSize + descriptorsSize) (omega arith))
 
-  module _ (file : List Field) (few : Bounded file) (y₁ : List ℕ) (entries : ℕ) (f₁ : Filled entrySize (length (entriesOf file)) (entryBlocks file (entriesOf file)) (take entriesSize (drop 0 out)) y₁ entries) where
+  module _ (file : List Field) (few : Bounded file) (y₁ : List ℕ) (entries : ℕ)
+      (f₁ : Filled entrySize (length (entriesOf file)) (entryBlocks file (entriesOf file)) (take entriesSize (drop 0 out)) y₁ entries) where
     e₁ : y₁ ≡ padded entriesSize (entryBlocks file (entriesOf file))
     e₁ = f₁ .holds ∙ ap (λ (k : ℕ). padded k (entryBlocks file (entriesOf file))) (ap length entries-unwritten ∙ length-replicate {A = ℕ} entriesSize 0)
 
@@ -229,7 +232,8 @@ module _ (out : List ℕ) (l : length out ≡ privilegesSize) (z : out ≡ repli
       pub privileges-written : take entriesSize out₁ ++ (y₂ ++ drop descriptorsSize (drop entriesSize out₁)) ≡ privilegeBlocks file
       unfolding privilegeBlocks
       privileges-written =
-          two-laid entriesSize descriptorsSize (padded entriesSize (entryBlocks file (entriesOf file))) out y₁ privileges-out e₁ entries-size (padded descriptorsSize (descriptorBlocks file (entriesOf file))) y₂ e₂ descriptors-size
+          two-laid entriesSize descriptorsSize (padded entriesSize (entryBlocks file (entriesOf file))) out y₁ privileges-out e₁ entries-size
+          (padded descriptorsSize (descriptorBlocks file (entriesOf file))) y₂ e₂ descriptors-size
 
       pub privileges-size : length (privilegeBlocks file) ≡ privilegesSize
       unfolding privilegeBlocks

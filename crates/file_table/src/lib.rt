@@ -4,14 +4,13 @@ use table::layout;
 use text_keys::rows;
 ghost use mathlib.Core.Path.{_≡_};
 ghost use mathlib.Core.Bool.{true, false};
-ghost use mathlib.Core.Logic.{_⊎_};
 ghost use mathlib.Core.List.{[], _∷_, _++_};
 ghost use Prim.Native.Nat.{_+_, _*_, _≤_};
 ghost use lib.ListN.{length, take, drop, replicate};
 ghost use Rattle.paper.specs.Common.{allOf};
 ghost use Rattle.paper.specs.Limits.{mostDomains, mostMembers, mostEntries, tableWords};
 ghost use Rattle.paper.specs.Text.{noLine};
-ghost use Rattle.paper.specs.Listing.{objectName, objectMembers, subjectName, subjectMembers, canRead, canWrite};
+ghost use Rattle.paper.specs.Listing.{objectName, objectMembers, subjectName, subjectMembers};
 ghost use Rattle.paper.specs.Entries.{fieldsAt, entriesOf, itemsOf};
 ghost use Rattle.paper.specs.Rules.{descriptorsOf, descriptorsIn, overLimit, domainsAt, repeats};
 ghost use Rattle.paper.specs.Policy.{memberDomains, policyOf};
@@ -20,6 +19,7 @@ ghost use Rattle.laws_page.specs.Right.{isNumbered};
 ghost use Rattle.laws_file.specs.Accepted.{total};
 ghost use Rattle.file_fields.specs.Fields.{fieldSize, between, wellSpaced};
 ghost use Rattle.file_fields.specs.Listed.{mostFields};
+ghost use Rattle.file_fields.specs.Places.{IsAccess};
 ghost use Rattle.file_index.specs.Maps.{Maps};
 ghost use Rattle.file_table.specs.Blocks.{entryBlocks, itemBlocks, accessBlocks, ownBlocks, descriptorBlocks, mapsSize, mapBlocks, privilegesSize, privilegeBlocks, Filled};
 ghost use Rattle.file_table.specs.Ready.{Ready, Bounded};
@@ -166,7 +166,7 @@ fn write_items(
     out: &mut [u16],
 ) -> usize
     requires { ⌜ Ready objectName (now t) (now list) n (now «objects_ix») objects (now «functions_ix») functions ⌝ }
-    requires { ⌜ (access ≡ canRead) ⊎ (access ≡ canWrite) ⌝ }
+    requires { ⌜ IsAccess access ⌝ }
     requires { ⌜ (from ≤ to) × (to ≤ n) ⌝ }
     requires { ⌜ now out ≡ replicate (length (now out)) 0 ⌝ }
     requires { ⌜ descriptorSize * length (itemsOf access (between (now t) (now list) from to)) ≤ length (now out) ⌝ }
@@ -212,14 +212,14 @@ fn write_access(
     out: &mut [u16],
 ) -> usize
     requires { ⌜ Ready objectName (now t) (now list) n (now «objects_ix») objects (now «functions_ix») functions ⌝ }
-    requires { ⌜ (access ≡ canRead) ⊎ (access ≡ canWrite) ⌝ }
+    requires { ⌜ IsAccess access ⌝ }
     requires { ⌜ (from ≤ to) × (to ≤ n) ⌝ }
     requires { ⌜ now out ≡ replicate (length (now out)) 0 ⌝ }
     requires { ⌜ descriptorSize * descriptorsOf access (between (now t) (now list) from to) ≤ length (now out) ⌝ }
     ensures { λ r. ⌜ Filled descriptorSize (descriptorsOf access (between (now (t .entry)) (now (list .entry)) from to)) (accessBlocks (between (now (t .entry)) (now (list .entry)) 0 n) access (between (now (t .entry)) (now (list .entry)) from to)) (now (out .entry)) (now (out .exit)) r ⌝ }
 {
     let v = file_fields::value_at(t, list, access, from, to, b"all", b"[]");
-    if file_fields::values::is_all(v) {
+    if text_lists::is_all(v) {
         file_blocks::write_descriptor(
             t,
             list,

@@ -172,7 +172,8 @@ module _ (t : List ℕ) where
         unless unknown-name (λ e. omega arith) seven (unknownName fs) _ (in-file UnknownName _ (unknown.unknown-name fs ascending))
         (λ eight.
         unless unbound-variable (λ e. omega arith) eight (unboundVariable fs) _ (in-file UnboundVariable _ (entries.unbound-variable fs ascending))
-        (λ ten. unless twin-principal (λ e. omega arith) ten (twinPrincipal fs) (fields fs) (in-file TwinPrincipal _ (entries.twin-principal fs ascending (page-right t fs page))) (λ eleven. (eleven, page))))))
+        (λ ten. unless twin-principal (λ e. omega arith) ten (twinPrincipal fs) (fields fs)
+        (in-file TwinPrincipal _ (entries.twin-principal fs ascending (page-right t fs page))) (λ eleven. (eleven, page))))))
 
   -- ---- the whole
 

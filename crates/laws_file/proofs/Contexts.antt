@@ -156,7 +156,8 @@ module _ (file : List Field) where
   functionNames = identifiersAt subjectMembers file
 
   -- a field that is good for its place
-  pub field-written : (kind : Value) (f : Field) (place : ℕ) → f .place ≡ place → rowAt place .value ≡ kind → bareIsNone kind ≡ false → isEmpty (rowAt place .block) ≡ true → isGood file f ≡ true → Written kind f
+  pub field-written : (kind : Value) (f : Field) (place : ℕ) → f .place ≡ place → rowAt place .value ≡ kind → bareIsNone kind ≡ false
+      → isEmpty (rowAt place .block) ≡ true → isGood file f ≡ true → Written kind f
   field-written kind f place e k n b h = let g = good file f h in written kind f (rw e k) n (rw e b) (g .right) (g .filled)
 
   pub key-written : {key : ℕ → ℕ} {scalar : Scalar} {c : ℕ} → KeyPlace key scalar c → (f : Field) → isGood file f ≡ true → f .place ≡ key c → Written (One scalar) f

@@ -53,7 +53,9 @@ module _ (file : List Field) (a : ℕ) (entry : List Field) where
     where
       go : (t : Bool) → allOf holds (cond t (descriptorOf file a [] ∷ []) (map (descriptorOf file a) (stretchesFrom (objectsIn a) entry))) ≡ true
       go true = both-true (holds (descriptorOf file a [])) true (one [] refl) refl
-      go false = allOf-map (descriptorOf file a) holds (stretchesFrom (objectsIn a) entry) (allOf-weaker (allOf test) (λ item. holds (descriptorOf file a item)) one (stretchesFrom (objectsIn a) entry) (stretches-all (objectsIn a) test entry h))
+      go false = allOf-map (descriptorOf file a) holds (stretchesFrom (objectsIn a) entry)
+          (allOf-weaker (allOf test) (λ item. holds (descriptorOf file a item)) one (stretchesFrom (objectsIn a) entry)
+          (stretches-all (objectsIn a) test entry h))
 
 -- ---- each is proper
 
@@ -94,7 +96,8 @@ module _ (file entry : List Field) (key : ℕ → ℕ) (scalar : Scalar) (says :
   abbrev binds : List ℕ → Bool
   binds v = not (isBinding (sortOf v)) || isBinding (sortOf (valueAt (key executionContext) entry))
 
-  bound-field : {a : ℕ} → AccessAt a → KeyPlace key scalar (objectContextIn a) → (f : Field) → isGood file f ≡ true → isUnboundKey key entry f ≡ false → f .place ≡ key (objectContextIn a) → binds (meant f) ≡ true
+  bound-field : {a : ℕ} → AccessAt a → KeyPlace key scalar (objectContextIn a) → (f : Field) → isGood file f ≡ true
+      → isUnboundKey key entry f ≡ false → f .place ≡ key (objectContextIn a) → binds (meant f) ≡ true
   unfolding isUnboundKey isAtOne
   bound-field at k f g u e =
       let w = key-written file k f g e in

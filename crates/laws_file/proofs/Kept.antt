@@ -11,7 +11,8 @@ use Rattle.paper.specs.Limits.{mostDomains, mostMembers, mostEntries, mostDescr
 use Rattle.paper.specs.Listing.{objectName, objectMembers, subjectName, subjectMembers, principal}
 use Rattle.paper.specs.Page.{Field, Outcome, fields}
 use Rattle.paper.specs.Entries.{entriesOf, lineOfEntry}
-use Rattle.paper.specs.Rules.{firstWith, passing, oneAt, membersAt, descriptorsIn, longPattern, overLimit, namedTwice, namesUnknown, unknownName, isUnbound, unboundVariable, samePrincipal, twinPrincipal}
+use Rattle.paper.specs.Rules.{firstWith, passing, oneAt, membersAt, descriptorsIn, longPattern, overLimit, namedTwice, namesUnknown, unknownName}
+use Rattle.paper.specs.Rules.{isUnbound, unboundVariable, samePrincipal, twinPrincipal}
 use Rattle.paper.specs.Rules.{unlessLine, ruled}
 use Rattle.laws.proofs.Tests.{both-left, both-right}
 use Rattle.laws.proofs.Counting.{allOf-weaker}
@@ -58,7 +59,7 @@ pub record Counted (fs : List Field) : Type 0 where
 
 -- of numbered fields
 module _ (fs : List Field) (numbered : allOf isNumbered fs ≡ true) where
-  entries-numbered : allOf (λ e. leb 1 (lineOfEntry e)) (entriesOf fs) ≡ true
+  pub entries-numbered : allOf (λ e. leb 1 (lineOfEntry e)) (entriesOf fs) ≡ true
   unfolding entriesOf
   entries-numbered = stretches-numbered principal fs numbered
 

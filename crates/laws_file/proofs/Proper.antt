@@ -8,16 +8,14 @@ use lib.Dec.{ltb}
 use lib.ListN.{length, length-map, length-append}
 use borrow.Author.Tests.{lt-ltb}
 use Rattle.paper.specs.Common.{allOf, anyOf}
-use Rattle.paper.specs.Text.{lines}
 use Rattle.paper.specs.Listing.{objectName, objectMembers, subjectName, subjectMembers, principal, subjectOfEntry, canCall, canReturn, canRead, canWrite}
-use Rattle.paper.specs.Page.{Field, fields, beforeFirst, pageOf}
+use Rattle.paper.specs.Page.{Field, fields, pageOf}
 use Rattle.paper.specs.Entries.{isAt, valueAt, fieldsAt, entriesOf}
 use Rattle.paper.specs.Rules.{oneAt, descriptorsIn, longPattern, domainsAt, namesUnknown, isUnbound, ruled}
 use Rattle.paper.specs.Policy.{Descriptor, accessOf, entryOf, memberDomains, policyOf}
 use Rattle.laws.proofs.Tests.{both-true}
 use Rattle.laws.proofs.Counting.{allOf-weaker, allOf-append}
 use Rattle.laws_page.specs.Right.{isRight, isNumbered, inListingOrder}
-use Rattle.laws_page.proofs.Right.{fields-right, fields-numbered, fields-in-order}
 use Rattle.laws_table.specs.Proper.{accessesOf, allDescriptors, boundIn, properDescriptor, properEntry, proper}
 use Rattle.laws_table.proofs.Parts.{Proper, is-proper}
 use Rattle.laws_file.specs.Accepted.{total, isFilled, isGood, isGoodEntry}
@@ -28,13 +26,15 @@ use Rattle.laws_file.proofs.Members.{members-below, members-counted}
 use Rattle.laws_file.proofs.Contexts.{execution, context-proper}
 use Rattle.laws_file.proofs.Descriptors.{reads, writes, accesses-counted, grant-proper, functions-named, descriptors-proper, descriptors-bound}
 use Rattle.laws_file.proofs.Principals.{good-entry, subject-known, principals-apart}
+use Rattle.laws_file.proofs.EachRule.{page-right, page-numbered, page-in-order}
 use Rattle.laws_file.proofs.Kept.{NoLine, no-line, Counted, counted, all-known, all-bound, all-apart}
 
 -- ---- an entry
 
 module _ (file : List Field) where
   -- what holds of the descriptors of both accesses
-  both-accesses : (entry : List Field) (test : Descriptor → Bool) → allOf test (accessOf file canRead entry) ≡ true → allOf test (accessOf file canWrite entry) ≡ true → allOf test (accessesOf (entryOf file entry)) ≡ true
+  both-accesses : (entry : List Field) (test : Descriptor → Bool) → allOf test (accessOf file canRead entry) ≡ true
+      → allOf test (accessOf file canWrite entry) ≡ true → allOf test (accessesOf (entryOf file entry)) ≡ true
   unfolding accessesOf entryOf
   both-accesses entry test r w = allOf-append test (accessOf file canRead entry) (accessOf file canWrite entry) r w
 
@@ -53,19 +53,28 @@ module _ (file : List Field) where
       (grant-proper (domainsAt subjectName file) (valueAt canCall entry)))
       (grant-proper (domainsAt subjectName file) (valueAt canReturn entry)))
       (both-accesses entry (properDescriptor (policyOf file)) (descriptors-proper file reads entry (g .fields)) (descriptors-proper file writes entry (g .fields))))
-      (both-accesses entry (λ d. boundIn (entryOf file entry .context) (d .context)) (descriptors-bound file reads entry _ (g .fields) (g .bound)) (descriptors-bound file writes entry _ (g .fields) (g .bound))))
+      (both-accesses entry (λ d. boundIn (entryOf file entry .context) (d .context)) (descriptors-bound file reads entry _ (g .fields) (g .bound))
+      (descriptors-bound file writes entry _ (g .fields) (g .bound))))
 
   -- an entry has as many descriptors as the rules count, and so has a policy
-  entry-counted : (entry : List Field) → length (accessesOf (entryOf file entry)) ≡ descriptorsIn entry
+  pub entry-counted : (entry : List Field) → length (accessesOf (entryOf file entry)) ≡ descriptorsIn entry
   unfolding accessesOf entryOf descriptorsIn
   entry-counted entry = rw (length-append, accesses-counted file canRead entry, accesses-counted file canWrite entry)
 
-  all-counted : (es : List (List Field)) → length (flatMap accessesOf (map (entryOf file) es)) ≡ total descriptorsIn es
+  pub all-counted : (es : List (List Field)) → length (flatMap accessesOf (map (entryOf file) es)) ≡ total descriptorsIn es
   unfolding flatMap total
   all-counted [] = refl
   all-counted (e ∷ es) = rw (length-append, entry-counted e, all-counted es)
 
 -- ---- a file
+
+pub domains-counted : (place : ℕ) (fs : List Field) → length (domainsAt place fs) ≡ total (oneAt place) fs
+unfolding domainsAt
+domains-counted place fs = rw length-map (fields-counted place fs)
+
+pub entries-counted : (fs : List Field) → length (policyOf fs .entries) ≡ total (oneAt principal) fs
+unfolding policyOf entriesOf
+entries-counted fs = rw length-map (stretches-counted principal fs)
 
 module _ (fs : List Field) (numbered : allOf isNumbered fs ≡ true) (right : allOf isRight fs ≡ true) (ordered : inListingOrder 0 false fs ≡ true) (none : NoLine fs) where
   abbrev limits : Counted fs
@@ -89,10 +98,6 @@ module _ (fs : List Field) (numbered : allOf isNumbered fs ≡ true) (right : al
       (stretches-all principal (isGood fs) fs all-good))
       (all-bound fs numbered none)
 
-  domains-counted : (place : ℕ) → length (domainsAt place fs) ≡ total (oneAt place) fs
-  unfolding domainsAt
-  domains-counted place = rw length-map (fields-counted place fs)
-
   -- the domains of a map's members
   map-below : (name members : ℕ) → length (fieldsAt members fs) ≤ length (fieldsAt name fs) → allOf (λ d. ltb d (length (domainsAt name fs))) (memberDomains 0 (fieldsAt members fs)) ≡ true
   unfolding domainsAt
@@ -101,11 +106,11 @@ module _ (fs : List Field) (numbered : allOf isNumbered fs ≡ true) (right : al
   parts : Proper (policyOf fs)
   unfolding policyOf allDescriptors entriesOf
   parts = record {
-    objectDomains = rw (domains-counted objectName) (limits .objectDomains);
-    subjectDomains = rw (domains-counted subjectName) (limits .subjectDomains);
+    objectDomains = rw (domains-counted objectName fs) (limits .objectDomains);
+    subjectDomains = rw (domains-counted subjectName fs) (limits .subjectDomains);
     objects = rw (members-counted objectMembers 0 fs) (limits .objects);
     functions = rw (members-counted subjectMembers 0 fs) (limits .functions);
-    entries = rw (length-map, stretches-counted principal fs) (limits .entries);
+    entries = rw (entries-counted fs) (limits .entries);
     descriptors = rw (all-counted fs (entriesOf fs)) (limits .descriptors);
     objectsBelow = map-below objectName objectMembers (members-few objectName objectMembers objects-only (λ e. omega arith) (λ e. omega arith) fs ordered);
     functionsBelow = map-below subjectName subjectMembers (members-few subjectName subjectMembers subjects-only (λ e. omega arith) (λ e. omega arith) fs ordered);
@@ -115,7 +120,4 @@ module _ (fs : List Field) (numbered : allOf isNumbered fs ≡ true) (right : al
 
 -- the policy of a file that holds to the rules is proper
 pub file-proper : (t : List ℕ) (fs : List Field) → pageOf t ≡ fields fs → ruled fs ≡ fields fs → proper (policyOf fs) ≡ true
-unfolding pageOf beforeFirst
-file-proper t fs p r =
-    is-proper (policyOf fs)
-    (parts fs (fields-numbered beforeFirst 1 (lines t) fs (omega arith) p) (fields-right beforeFirst 1 (lines t) fs p) (fields-in-order beforeFirst 1 (lines t) fs p) (no-line fs fs r .0))
+file-proper t fs p r = is-proper (policyOf fs) (parts fs (page-numbered t fs p) (page-right t fs p) (page-in-order t fs p) (no-line fs fs r .0))

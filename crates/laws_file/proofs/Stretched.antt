@@ -40,7 +40,7 @@ allOf-both f g (x ∷ xs) p q =
 module _ (place : ℕ) where
   -- each of the fields of each stretch is one of the fields
   module _ (test : Field → Bool) where
-    next-all : (fs : List Field) → allOf test fs ≡ true → allOf test (upToNext place fs) ≡ true
+    pub next-all : (fs : List Field) → allOf test fs ≡ true → allOf test (upToNext place fs) ≡ true
     unfolding allOf upToNext
     next-all [] h = refl
     next-all (f ∷ fs) h = go (isAt place f) (both-left (test f) _ h) (next-all fs (both-right (test f) _ h))

@@ -12,8 +12,8 @@ use borrow.Author.Tests.{eqb-true, ne-eqb, leb-true, le-leb, not-true}
 use Rattle.paper.specs.Common.{isEmpty, within, allOf, anyOf}
 use Rattle.paper.specs.Text.{lineFeed, space, mayStand, linesFrom, withByte, onLine}
 use Rattle.paper.specs.Listing.{rowAt, keyAt, bareIsNone, noFault, valueFault}
-use Rattle.paper.specs.Page.{Field, fields, fault, State, pass, beforeFirst, isLeftEmpty, placesFor, oneSpaceAndValue, fieldStep, afterKey, placeStep, unlessEmpty}
-use Rattle.paper.specs.Page.{lineStep, atEnd, pageFrom, pageOf}
+use Rattle.paper.specs.Page.{Field, fields, fault, State, pass, beforeFirst, isLeftEmpty, placesFor, oneSpaceAndValue}
+use Rattle.paper.specs.Page.{fieldStep, afterKey, placeStep, unlessEmpty, lineStep, atEnd, pageFrom, pageOf}
 use Rattle.paper.specs.Filled.{keyLine, bareLine, writtenLine}
 use Rattle.laws.proofs.Tests.{both-left, both-right, both-false, either-of, either-right}
 use Rattle.laws.proofs.Counting.{allOf-append, allOf-weaker}
@@ -38,10 +38,10 @@ lines-more at (b ∷ bs) rest h =
     refl
 
 -- what stands behind the key on the line of a field
-unfoldable behindKey : List ℕ → List ℕ
+unfoldable pub behindKey : List ℕ → List ℕ
 behindKey v = cond (isEmpty v) [] (space ∷ v)
 
-line-ends : (f : Field) (rest : List ℕ) → writtenLine f ++ rest ≡ (keyAt (f .place) ++ behindKey (f .value)) ++ (lineFeed ∷ rest)
+pub line-ends : (f : Field) (rest : List ℕ) → writtenLine f ++ rest ≡ (keyAt (f .place) ++ behindKey (f .value)) ++ (lineFeed ∷ rest)
 unfolding writtenLine keyLine bareLine behindKey
 line-ends f rest = go (isEmpty (f .value))
   where
@@ -53,8 +53,25 @@ line-ends f rest = go (isEmpty (f .value))
         ∙ ap (λ (l : List ℕ). keyAt (f .place) ++ (space ∷ l)) (append-assoc (f .value) (lineFeed ∷ []) rest)
         ∙ sym (append-assoc (keyAt (f .place)) (space ∷ f .value) (lineFeed ∷ rest))
 
-line-length : (f : Field) → length (writtenLine f) ≡ length (keyAt (f .place) ++ behindKey (f .value)) + 1
-line-length f = ap length (sym (append-nil (writtenLine f)) ∙ line-ends f []) ∙ length-append (keyAt (f .place) ++ behindKey (f .value)) (lineFeed ∷ [])
+pub line-length : (f : Field) → length (writtenLine f) ≡ length (keyAt (f .place) ++ behindKey (f .value)) + 1
+line-length f =
+    ap length (sym (append-nil (writtenLine f)) ∙ line-ends f []) ∙ length-append (keyAt (f .place) ++ behindKey (f .value)) (lineFeed ∷ [])
+
+-- ---- a key that may come
+
+-- what is known of it, where it begins a block and where it follows
+pub key-known : (place : ℕ) (bare : Bool) (f : Field) (r : List ℕ) (Known : Type 0)
+    → ((here : Bool) (ps : List ℕ) → Found place here ps (f .place) r → Known)
+    → mayFollow place bare f ≡ true → Known
+unfolding mayFollow
+key-known place bare f r Known known m =
+    ⊎-elim
+    (λ k. known true (rowAt place .block) (found-block place (f .place) r (both-right bare _ k)))
+    (λ k. known false (rowAt place .next) (found-next place (f .place) r (both-right (not (needsBlock place bare)) _ k)))
+    (either-of (bare && anyOf (eqb (f .place)) (rowAt place .block)) _ m)
+
+key-stands : (place : ℕ) (bare : Bool) (f : Field) → mayFollow place bare f ≡ true → allOf (within 0x20 0x7E) (keyAt (f .place)) ≡ true
+key-stands place bare f m = key-known place bare f [] (allOf (within 0x20 0x7E) (keyAt (f .place)) ≡ true) (λ here ps d. d .stands) m
 
 -- ---- a value behind its key
 
@@ -64,28 +81,54 @@ one-space v s p =
     let q : suc (length v) - 1 ≡ suc (length v - 1) = omega arith in
     rw (le-leb 2 (suc (length v)) (omega arith), p .first, q, p .last) refl
 
-plain-of : (p : ℕ) (v : List ℕ) → 1 ≤ length v → (isEmpty v || eqb (valueFault (rowAt p .value) v) noFault) ≡ true → (valueFault (rowAt p .value) v ≡ noFault) × Plain v
+pub plain-of : (p : ℕ) (v : List ℕ) → 1 ≤ length v → (isEmpty v || eqb (valueFault (rowAt p .value) v) noFault) ≡ true
+    → (valueFault (rowAt p .value) v ≡ noFault) × Plain v
 plain-of p v s r =
     let e : valueFault (rowAt p .value) v ≡ noFault = eqb-true _ _ (rw (ne-eqb (length v) 0 (λ (z : length v ≡ 0). omega arith)) at r) in
     (e, right-plain v (rowAt p .value) s e)
 
-behind-stands : (p : ℕ) (v : List ℕ) → (isEmpty v || eqb (valueFault (rowAt p .value) v) noFault) ≡ true → allOf (within 0x20 0x7E) (behindKey v) ≡ true
+behind-stands : (p : ℕ) (v : List ℕ) → (isEmpty v || eqb (valueFault (rowAt p .value) v) noFault) ≡ true
+    → allOf (within 0x20 0x7E) (behindKey v) ≡ true
 unfolding behindKey allOf
 behind-stands p [] r = refl
-behind-stands p (b ∷ bs) r = rw (ne-eqb (suc (length bs)) 0 (λ (z : suc (length bs) ≡ 0). omega arith)) (plain-of p (b ∷ bs) (omega arith) r .1 .stands)
+behind-stands p (b ∷ bs) r =
+    rw (ne-eqb (suc (length bs)) 0 (λ (z : suc (length bs) ≡ 0). omega arith)) (plain-of p (b ∷ bs) (omega arith) r .1 .stands)
+
+-- what a field writes on its line, LF aside
+line-bytes : (place : ℕ) (bare : Bool) (f : Field) → mayFollow place bare f ≡ true → isRight f ≡ true
+    → allOf (within 0x20 0x7E) (keyAt (f .place) ++ behindKey (f .value)) ≡ true
+unfolding isRight
+line-bytes place bare f m r =
+    allOf-append (within 0x20 0x7E) (keyAt (f .place)) (behindKey (f .value)) (key-stands place bare f m) (behind-stands (f .place) (f .value) r)
+
+-- the lines of a text of fields: that of the first, and the rest
+pub text-lines : (place : ℕ) (bare : Bool) (at : ℕ) (f : Field) (fs : List Field) → mayFollow place bare f ≡ true → isRight f ≡ true
+    → linesFrom at (flatMap writtenLine (f ∷ fs))
+    ≡ record { start = at; text = keyAt (f .place) ++ behindKey (f .value); ended = true }
+    ∷ linesFrom (at + length (writtenLine f)) (flatMap writtenLine fs)
+text-lines place bare at f fs m r =
+    rw (text-more f fs, line-ends f (flatMap writtenLine fs), line-length f)
+    (lines-more at (keyAt (f .place) ++ behindKey (f .value)) (flatMap writtenLine fs) (line-bytes place bare f m r))
 
 field-step : (n p from : ℕ) (v : List ℕ) → (isEmpty v || eqb (valueFault (rowAt p .value) v) noFault) ≡ true
-    → afterKey n p from (behindKey v) ≡ pass (record { place = p; bare = isEmpty v; line = n }) (record { line = n; place = p; start = from + cond (isEmpty v) 0 1; value = v } ∷ [])
+    → afterKey n p from (behindKey v)
+    ≡ pass (record { place = p; bare = isEmpty v; line = n }) (record { line = n; place = p; start = from + cond (isEmpty v) 0 1; value = v } ∷ [])
 unfolding afterKey fieldStep behindKey
 field-step n p from [] r = let q : from + 0 ≡ from = omega arith in rw q refl
 field-step n p from (b ∷ bs) r =
     let d = plain-of p (b ∷ bs) (omega arith) r in
-    rw (ne-eqb (suc (length bs)) 0 (λ (z : suc (length bs) ≡ 0). omega arith), ne-eqb (suc (suc (length bs))) 0 (λ (z : suc (suc (length bs)) ≡ 0). omega arith), one-space (b ∷ bs) (omega arith) (d .1), d .0)
+    rw (
+      ne-eqb (suc (length bs)) 0 (λ (z : suc (length bs) ≡ 0). omega arith),
+      ne-eqb (suc (suc (length bs))) 0 (λ (z : suc (suc (length bs)) ≡ 0). omega arith),
+      one-space (b ∷ bs) (omega arith) (d .1),
+      d .0,
+    )
     refl
 
 -- ---- the line of a field after a state
 
-line-step : (st : State) (n at p : ℕ) (r : List ℕ) (here : Bool) (ps : List ℕ) → Found (st .place) here ps p r → isLeftEmpty st here ≡ false → placesFor st (keyAt p ++ r) ≡ ps
+line-step : (st : State) (n at p : ℕ) (r : List ℕ) (here : Bool) (ps : List ℕ) → Found (st .place) here ps p r → isLeftEmpty st here ≡ false
+    → placesFor st (keyAt p ++ r) ≡ ps
     → lineStep st n (record { start = at; text = keyAt p ++ r; ended = true }) ≡ afterKey n p (at + length (keyAt p)) r
 unfolding lineStep unlessEmpty placeStep
 line-step st n at p r here ps d w q = rw (d .counts, d .block, w, q, d .found, d .somewhere, drop-append-seam (keyAt p) r) refl
@@ -97,7 +140,8 @@ module _ (st : State) (n at : ℕ) (f : Field) (r : List ℕ) where
   unfolding isLeftEmpty placesFor
   in-block b a =
       let d = found-block (st .place) (f .place) r a in
-      line-step st n at (f .place) r true (rowAt (st .place) .block) d (both-false (st .bare && not (bareIsNone (rowAt (st .place) .value))) (not true) refl) (rw (b, d .block) refl)
+      line-step st n at (f .place) r true (rowAt (st .place) .block) d
+      (both-false (st .bare && not (bareIsNone (rowAt (st .place) .value))) (not true) refl) (rw (b, d .block) refl)
 
   -- where it follows that field
   behind-it : needsBlock (st .place) (st .bare) ≡ false → anyOf (eqb (f .place)) (rowAt (st .place) .next) ≡ true
@@ -113,15 +157,8 @@ module _ (st : State) (n at : ℕ) (f : Field) (r : List ℕ) where
   step-on m =
       ⊎-elim
       (λ k. in-block (both-left (st .bare) _ k) (both-right (st .bare) _ k))
-      (λ k. behind-it (not-true _ (both-left (not (needsBlock (st .place) (st .bare))) _ k)) (both-right (not (needsBlock (st .place) (st .bare))) _ k))
-      (either-of (st .bare && anyOf (eqb (f .place)) (rowAt (st .place) .block)) _ m)
-
-  key-stands : mayFollow (st .place) (st .bare) f ≡ true → allOf (within 0x20 0x7E) (keyAt (f .place)) ≡ true
-  unfolding mayFollow
-  key-stands m =
-      ⊎-elim
-      (λ k. found-block (st .place) (f .place) r (both-right (st .bare) _ k) .stands)
-      (λ k. found-next (st .place) (f .place) r (both-right (not (needsBlock (st .place) (st .bare))) _ k) .stands)
+      (λ k. behind-it (not-true _ (both-left (not (needsBlock (st .place) (st .bare))) _ k))
+      (both-right (not (needsBlock (st .place) (st .bare))) _ k))
       (either-of (st .bare && anyOf (eqb (f .place)) (rowAt (st .place) .block)) _ m)
 
 -- ---- all of them
@@ -136,7 +173,7 @@ ends-here st n h = go (st .bare && not (bareIsNone (rowAt (st .place) .value))) 
     go false true k = refl
     go false false k = absurd (false≢true k)
 
-text-none : (at : ℕ) → linesFrom at (flatMap writtenLine []) ≡ []
+pub text-none : (at : ℕ) → linesFrom at (flatMap writtenLine []) ≡ []
 unfolding flatMap linesFrom
 text-none at = refl
 
@@ -147,12 +184,10 @@ reads-back st n at [] h r = rw text-none (ends-here st n h)
 reads-back st n at (f ∷ fs) h r =
     let m : mayFollow (st .place) (st .bare) f ≡ true = both-left (mayFollow (st .place) (st .bare) f) _ h in
     let one : isRight f ≡ true = both-left (isRight f) _ r in
-    let clean : allOf (within 0x20 0x7E) (keyAt (f .place) ++ behindKey (f .value)) ≡ true = allOf-append (within 0x20 0x7E) (keyAt (f .place)) (behindKey (f .value)) (key-stands st n at f [] m) (behind-stands (f .place) (f .value) one) in
-    let cut : linesFrom at (flatMap writtenLine (f ∷ fs)) ≡ record { start = at; text = keyAt (f .place) ++ behindKey (f .value); ended = true } ∷ linesFrom (at + length (writtenLine f)) (flatMap writtenLine fs)
-    = rw (text-more f fs, line-ends f (flatMap writtenLine fs), line-length f) (lines-more at (keyAt (f .place) ++ behindKey (f .value)) (flatMap writtenLine fs) clean) in
     let step = step-on st n at f (behindKey (f .value)) m ∙ field-step n (f .place) (at + length (keyAt (f .place))) (f .value) one in
-    let rest = reads-back (record { place = f .place; bare = isEmpty (f .value); line = n }) (n + 1) (at + length (writtenLine f)) fs (both-right (mayFollow (st .place) (st .bare) f) _ h) (both-right (isRight f) _ r) in
-    rw (cut, step, rest) refl
+    let rest = reads-back (record { place = f .place; bare = isEmpty (f .value); line = n }) (n + 1) (at + length (writtenLine f)) fs
+    (both-right (mayFollow (st .place) (st .bare) f) _ h) (both-right (isRight f) _ r) in
+    rw (text-lines (st .place) (st .bare) at f fs m one, step, rest) refl
 
 -- the fields of a text that is written from its first line on
 pub written-read : (fs : List Field) → inListingOrder 0 false fs ≡ true → allOf isRight fs ≡ true → pageOf (textOf fs) ≡ fields (numbered 1 0 fs)
@@ -166,15 +201,15 @@ unfolding mayStand
 within-stands b h = either-right (eqb b lineFeed) _ h
 
 line-stands : (place : ℕ) (bare : Bool) (f : Field) → mayFollow place bare f ≡ true → isRight f ≡ true → allOf mayStand (writtenLine f) ≡ true
-unfolding isRight mayStand allOf
+unfolding mayStand allOf
 line-stands place bare f m r =
     rw (sym (append-nil (writtenLine f)) ∙ line-ends f [])
     (allOf-append mayStand (keyAt (f .place) ++ behindKey (f .value)) (lineFeed ∷ [])
-    (allOf-weaker (within 0x20 0x7E) mayStand within-stands (keyAt (f .place) ++ behindKey (f .value))
-    (allOf-append (within 0x20 0x7E) (keyAt (f .place)) (behindKey (f .value)) (key-stands (record { place = place; bare = bare; line = 0 }) 0 0 f [] m) (behind-stands (f .place) (f .value) r)))
+    (allOf-weaker (within 0x20 0x7E) mayStand within-stands (keyAt (f .place) ++ behindKey (f .value)) (line-bytes place bare f m r))
     refl)
 
-pub text-stands : (place : ℕ) (bare : Bool) (fs : List Field) → inListingOrder place bare fs ≡ true → allOf isRight fs ≡ true → allOf mayStand (textOf fs) ≡ true
+pub text-stands : (place : ℕ) (bare : Bool) (fs : List Field) → inListingOrder place bare fs ≡ true → allOf isRight fs ≡ true
+    → allOf mayStand (textOf fs) ≡ true
 unfolding textOf inListingOrder allOf flatMap
 text-stands place bare [] h r = refl
 text-stands place bare (f ∷ fs) h r =

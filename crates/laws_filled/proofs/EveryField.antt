@@ -1,5 +1,5 @@
 -- What holds of every field of a file holds of every field of the filled text, where it holds of what is put in: bare fields, `[]` and the defaults.
-use mathlib.Core.Path.{_≡_, refl, sym, ap, _∙_}
+use mathlib.Core.Path.{_≡_, refl, sym, _∙_}
 use mathlib.Core.List.{List, [], _∷_, map, flatMap}
 use mathlib.Core.Bool.{Bool, true, false, cond, not, _&&_, _||_, false≢true}
 use Prim.Native.Nat.{ℕ, _+_, _≤_}
@@ -12,11 +12,11 @@ use Rattle.laws.proofs.Tests.{both-true, both-left, both-right}
 use Rattle.laws.proofs.Counting.{allOf-weaker, allOf-append, allOf-flatMap}
 use Rattle.laws_page.specs.Right.{inListingOrder, isRight}
 use Rattle.laws_file.specs.Accepted.{isFilled}
-use Rattle.laws_file.proofs.Stretched.{allOf-both, stretches-all, value-holds}
+use Rattle.laws_file.proofs.Stretched.{allOf-both, next-all, stretches-all, value-holds}
 use Rattle.laws_file.proofs.Ordered.{fields-filled, subjects-said}
-use Rattle.laws_filled.specs.Fields.{unwritten, valueField, contextFields, itemFields, accessFields, entryRest, entryFields, numbered, written, filledFields}
-use Rattle.laws_filled.proofs.Says.{says, numbered-says}
-use Rattle.laws_filled.proofs.WrittenRight.{front-all}
+use Rattle.laws_filled.specs.Fields.{unwritten, valueField, contextFields, itemFields, accessFields, entryRest, entryFields}
+use Rattle.laws_filled.specs.Fields.{written, filledFields}
+use Rattle.laws_filled.proofs.Says.{says, filled-same}
 
 -- it passes, and is not left empty
 unfoldable pub both : (Field → Bool) → Field → Bool
@@ -76,7 +76,8 @@ module _ (test : Field → Bool) (q : Passes test) where
   context-passes c e s h =
       more (unwritten c []) _ (q .bare c (λ (z : c ≡ 9). omega arith))
       (more (valueField (c + 1) e) _ (other-passes (c + 1) e s (omega arith))
-      (more (valueField (c + 2) e) _ (other-passes (c + 2) e s (omega arith)) (more (valueField (c + 3) e) [] (other-passes (c + 3) e s (omega arith)) last)))
+      (more (valueField (c + 2) e) _ (other-passes (c + 2) e s (omega arith))
+      (more (valueField (c + 3) e) [] (other-passes (c + 3) e s (omega arith)) last)))
 
   item-passes : (a : ℕ) (i : List Field) → 10 ≤ a → allOf (both test) i ≡ true → allOf test (itemFields a i) ≡ true
   unfolding itemFields
@@ -91,7 +92,8 @@ module _ (test : Field → Bool) (q : Passes test) where
       go false =
           more (unwritten a []) _ (q .bare a (λ (z : a ≡ 9). omega arith))
           (allOf-flatMap test (itemFields a) (stretchesFrom (a + 1) e)
-          (allOf-weaker (allOf (both test)) (λ i. allOf test (itemFields a i)) (λ i k. item-passes a i h k) (stretchesFrom (a + 1) e) (stretches-all (a + 1) (both test) e s)))
+          (allOf-weaker (allOf (both test)) (λ i. allOf test (itemFields a i)) (λ i k. item-passes a i h k) (stretchesFrom (a + 1) e)
+          (stretches-all (a + 1) (both test) e s)))
 
   pub entry-passes : (e : List Field) → allOf (both test) e ≡ true → anyOf (isAt subjectOfEntry) e ≡ true → allOf test (entryFields e) ≡ true
   unfolding entryFields entryRest
@@ -112,13 +114,13 @@ module _ (test : Field → Bool) (q : Passes test) where
     written-passes : allOf test (written fs) ≡ true
     unfolding written both entriesOf
     written-passes =
-        allOf-append test (upToNext principal fs) (flatMap entryFields (stretchesFrom principal fs)) (front-all test principal fs h)
+        allOf-append test (upToNext principal fs) (flatMap entryFields (stretchesFrom principal fs)) (next-all principal test fs h)
         (allOf-flatMap test entryFields (stretchesFrom principal fs)
-        (allOf-weaker (λ e. allOf (both test) e && anyOf (isAt subjectOfEntry) e) (λ e. allOf test (entryFields e)) (λ e k. entry-passes e (both-left (allOf (both test) e) _ k) (both-right (allOf (both test) e) _ k)) (stretchesFrom principal fs)
+        (allOf-weaker (λ e. allOf (both test) e && anyOf (isAt subjectOfEntry) e) (λ e. allOf test (entryFields e))
+        (λ e k. entry-passes e (both-left (allOf (both test) e) _ k) (both-right (allOf (both test) e) _ k)) (stretchesFrom principal fs)
         (allOf-both (allOf (both test)) (λ e. anyOf (isAt subjectOfEntry) e) (stretchesFrom principal fs)
         (stretches-all principal (both test) fs (allOf-both test isFilled fs h (fields-filled 0 false fs o)))
         (subjects-said 0 false fs o r))))
 
     pub filled-passes : allOf test (filledFields fs) ≡ true
-    unfolding filledFields
-    filled-passes = sym (said-all (numbered 1 0 (written fs))) ∙ ap (allOf test) (numbered-says 1 0 (written fs)) ∙ said-all (written fs) ∙ written-passes
+    filled-passes = filled-same (allOf test) said-all fs ∙ written-passes

@@ -15,13 +15,13 @@ use Rattle.paper.specs.Filled.{filledText}
 use Rattle.paper.specs.Promises.{textPage, fileOf}
 use Rattle.laws.proofs.Tests.{both-left, both-right}
 use Rattle.laws_page.specs.Right.{inListingOrder}
-use Rattle.laws_file.proofs.EachRule.{page-right}
+use Rattle.laws_file.proofs.EachRule.{page-right, page-in-order}
 use Rattle.laws_filled.specs.Fields.{filledFields, written}
 use Rattle.laws_filled.proofs.Text.{filled-text}
 use Rattle.laws_filled.proofs.Back.{text-stands}
 use Rattle.laws_filled.proofs.WrittenRight.{written-right}
 use Rattle.laws_filled.proofs.WrittenOrder.{written-order}
-use Rattle.laws_filled.proofs.FilledPage.{page-in-order, filled-page}
+use Rattle.laws_filled.proofs.FilledPage.{filled-page}
 
 no-bad-byte : (n : ℕ) (t : List ℕ) → allOf mayStand t ≡ true → badByteLine n t ≡ 0
 unfolding allOf badByteLine
@@ -34,7 +34,8 @@ filled-stands t fs page =
     rw (filled-text fs) (text-stands 0 false (written fs) (written-order 0 false fs o) (written-right fs o (page-right t fs page)))
 
 -- no line of it is at fault: what the rules over the whole file say is all that is left
-pub filled-ruled : (t : List ℕ) (fs : List Field) → pageOf t ≡ fields fs → length (filledText fs) ≤ textBytes → fileOf (filledText fs) ≡ ruled (filledFields fs)
+pub filled-ruled : (t : List ℕ) (fs : List Field) → pageOf t ≡ fields fs → length (filledText fs) ≤ textBytes
+    → fileOf (filledText fs) ≡ ruled (filledFields fs)
 unfolding fileOf textPage unlessLine
 filled-ruled t fs page short =
     rw (le-ltb textBytes (length (filledText fs)) short, no-bad-byte 1 (filledText fs) (filled-stands t fs page), filled-page t fs page) refl

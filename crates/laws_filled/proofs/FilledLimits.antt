@@ -1,45 +1,27 @@
 -- 6 of the filled text, its patterns aside: what is counted is counted by the policy too, which is the same.
 use mathlib.Core.Path.{_≡_, refl, sym, ap, _∙_}
-use mathlib.Core.List.{List, [], _∷_, map, flatMap}
+use mathlib.Core.List.{List, [], _∷_, flatMap}
 use Prim.Native.Nat.{ℕ, _+_, _≤_}
 use native.Mathlib.Omega.{arith}
-use lib.ListN.{length, length-map, length-append}
+use lib.ListN.{length}
 use borrow.Author.Tests.{le-ltb}
-use Rattle.paper.specs.Listing.{principal, canRead, canWrite}
 use Rattle.paper.specs.Page.{Field}
 use Rattle.paper.specs.Entries.{entriesOf}
-use Rattle.paper.specs.Rules.{passing, oneAt, membersAt, descriptorsIn, domainsAt}
-use Rattle.paper.specs.Policy.{Policy, entryOf, policyOf}
+use Rattle.paper.specs.Rules.{passing, oneAt, membersAt, descriptorsIn}
+use Rattle.paper.specs.Policy.{Policy, policyOf}
 use Rattle.laws_table.specs.Proper.{accessesOf}
 use Rattle.laws_file.specs.Accepted.{total}
-use Rattle.laws_file.proofs.Stretched.{stretches-counted, fields-counted}
-use Rattle.laws_file.proofs.Descriptors.{accesses-counted}
 use Rattle.laws_file.proofs.Members.{members-counted}
+use Rattle.laws_file.proofs.Proper.{all-counted, domains-counted, entries-counted}
 
 -- a sum within its limit names no line
 pub passing-silent : {A : Type 0} (line weight : A → ℕ) (limit k : ℕ) (xs : List A) → k + total weight xs ≤ limit → passing line weight limit k xs ≡ 0
 unfolding passing total
 passing-silent line weight limit k [] h = refl
-passing-silent line weight limit k (x ∷ xs) h = rw (le-ltb limit (k + weight x) (omega arith)) (passing-silent line weight limit (k + weight x) xs (omega arith))
+passing-silent line weight limit k (x ∷ xs) h =
+    rw (le-ltb limit (k + weight x) (omega arith)) (passing-silent line weight limit (k + weight x) xs (omega arith))
 
 -- ---- fields that have the same policy count the same
-
-entry-counted : (file e : List Field) → length (accessesOf (entryOf file e)) ≡ descriptorsIn e
-unfolding accessesOf entryOf descriptorsIn
-entry-counted file e = rw (length-append, accesses-counted file canRead e, accesses-counted file canWrite e)
-
-all-counted : (file : List Field) (es : List (List Field)) → length (flatMap accessesOf (map (entryOf file) es)) ≡ total descriptorsIn es
-unfolding flatMap total
-all-counted file [] = refl
-all-counted file (e ∷ es) = rw (length-append, entry-counted file e, all-counted file es)
-
-domains-counted : (p : ℕ) (fs : List Field) → length (domainsAt p fs) ≡ total (oneAt p) fs
-unfolding domainsAt
-domains-counted p fs = rw length-map (fields-counted p fs)
-
-entries-counted : (fs : List Field) → length (policyOf fs .entries) ≡ total (oneAt principal) fs
-unfolding policyOf entriesOf
-entries-counted fs = rw length-map (stretches-counted principal fs)
 
 module _ (fs gs : List Field) (e : policyOf gs ≡ policyOf fs) where
   pub same-object-domains : total (oneAt 2) gs ≡ total (oneAt 2) fs
@@ -63,4 +45,5 @@ module _ (fs gs : List Field) (e : policyOf gs ≡ policyOf fs) where
 
   pub same-descriptors : total descriptorsIn (entriesOf gs) ≡ total descriptorsIn (entriesOf fs)
   unfolding policyOf
-  same-descriptors = sym (all-counted gs (entriesOf gs)) ∙ ap (λ (p : Policy). length (flatMap accessesOf (p .entries))) e ∙ all-counted fs (entriesOf fs)
+  same-descriptors =
+      sym (all-counted gs (entriesOf gs)) ∙ ap (λ (p : Policy). length (flatMap accessesOf (p .entries))) e ∙ all-counted fs (entriesOf fs)

@@ -12,15 +12,16 @@ use Rattle.paper.specs.Scalars.{isVariable}
 use Rattle.paper.specs.Listing.{principal, objectName, subjectName, subjectMembers, subjectOfEntry, executionContext, uidIn, gidIn}
 use Rattle.paper.specs.Page.{Field}
 use Rattle.paper.specs.Entries.{isAt, isAtOne, valueAt, upToNext, stretchesFrom, entriesOf}
-use Rattle.paper.specs.Rules.{earlier, earliest, firstWith, repeats, repeated, domainNamed, membersNamed, domainsAt, identifiersAt, namesUnknown, unknownName, inObjectContexts, isUnboundKey, isUnbound, unboundVariable}
+use Rattle.paper.specs.Rules.{earlier, earliest, firstWith, repeats, repeated, domainNamed, membersNamed, domainsAt, identifiersAt, namesUnknown}
+use Rattle.paper.specs.Rules.{unknownName, inObjectContexts, isUnboundKey, isUnbound, unboundVariable}
 use Rattle.laws.proofs.Tests.{both-left, both-right}
 use Rattle.laws.proofs.Counting.{allOf-weaker}
 use Rattle.laws_page.specs.Right.{isRight, isNumbered, mayFollow, inListingOrder}
 use Rattle.laws_file.specs.Accepted.{isFilled}
 use Rattle.laws_file.proofs.Stretched.{allOf-map, allOf-both, stretches-all}
 use Rattle.laws_file.proofs.Ordered.{fields-filled, subjects-said}
-use Rattle.laws_filled.specs.Fields.{unwritten, entryFields, numbered, written, filledFields}
-use Rattle.laws_filled.proofs.Says.{says, numbered-says, value-says, domains-say, identifiers-say, stretches-say}
+use Rattle.laws_filled.specs.Fields.{unwritten, entryFields, written, filledFields}
+use Rattle.laws_filled.proofs.Says.{says, filled-same, value-says, domains-say, identifiers-say, stretches-say}
 use Rattle.laws_filled.proofs.Past.{next-past, none-before}
 use Rattle.laws_filled.proofs.SamePolicy.{front-values, next-none, entries-written}
 use Rattle.laws_filled.proofs.Rows.{stays-late}
@@ -38,32 +39,39 @@ unrepeated named seen (f ∷ fs) = not (repeats seen (named f)) && unrepeated na
 
 pub next-written : (fs : List Field) → upToNext principal (written fs) ≡ upToNext principal fs
 unfolding written
-next-written fs = next-past principal (upToNext principal fs) (flatMap entryFields (entriesOf fs)) (none-before principal fs) ∙ rw (next-none (entriesOf fs)) (append-nil (upToNext principal fs))
+next-written fs =
+    next-past principal (upToNext principal fs) (flatMap entryFields (entriesOf fs)) (none-before principal fs)
+    ∙ rw (next-none (entriesOf fs)) (append-nil (upToNext principal fs))
 
 module _ (named : Field → List (List ℕ)) (said : (f : Field) → named (says f) ≡ named f) (quiet : (f : Field) → 8 ≤ f .place → named f ≡ []) where
   names-silent : (seen : List (List ℕ)) (fs : List Field) → unrepeated named seen fs ≡ true → repeated named seen fs ≡ 0
   unfolding unrepeated repeated
   names-silent seen [] h = refl
   names-silent seen (f ∷ fs) h =
-      rw (not-true (repeats seen (named f)) (both-left (not (repeats seen (named f))) _ h)) (names-silent (named f ++ seen) fs (both-right (not (repeats seen (named f))) _ h))
+      rw (not-true (repeats seen (named f)) (both-left (not (repeats seen (named f))) _ h))
+      (names-silent (named f ++ seen) fs (both-right (not (repeats seen (named f))) _ h))
 
   silent-names : (seen : List (List ℕ)) (fs : List Field) → allOf isNumbered fs ≡ true → repeated named seen fs ≡ 0 → unrepeated named seen fs ≡ true
   unfolding unrepeated repeated allOf isNumbered
   silent-names seen [] n h = refl
   silent-names seen (f ∷ fs) n h = go (repeats seen (named f)) h (silent-names (named f ++ seen) fs (both-right (leb 1 (f .line)) _ n))
     where
-      go : (t : Bool) → cond t (f .line) (repeated named (named f ++ seen) fs) ≡ 0 → (repeated named (named f ++ seen) fs ≡ 0 → unrepeated named (named f ++ seen) fs ≡ true) → (not t && unrepeated named (named f ++ seen) fs) ≡ true
+      go : (t : Bool) → cond t (f .line) (repeated named (named f ++ seen) fs) ≡ 0
+          → (repeated named (named f ++ seen) fs ≡ 0 → unrepeated named (named f ++ seen) fs ≡ true)
+          → (not t && unrepeated named (named f ++ seen) fs) ≡ true
       go true k ih = absurd (let l : 1 ≤ f .line = leb-true 1 (f .line) (both-left (leb 1 (f .line)) _ n) in omega arith)
       go false k ih = ih k
 
-  quiet-rest : (seen : List (List ℕ)) (q : ℕ) (bare : Bool) (fs : List Field) → 8 ≤ q → inListingOrder q bare fs ≡ true → unrepeated named seen fs ≡ true
+  quiet-rest : (seen : List (List ℕ)) (q : ℕ) (bare : Bool) (fs : List Field) → 8 ≤ q → inListingOrder q bare fs ≡ true
+      → unrepeated named seen fs ≡ true
   unfolding unrepeated inListingOrder repeats
   quiet-rest seen q bare [] l o = refl
   quiet-rest seen q bare (f ∷ fs) l o =
       let k : 8 ≤ f .place = stays-late q bare f l (both-left (mayFollow q bare f) _ o) in
       rw (quiet f k) (quiet-rest seen (f .place) (isEmpty (f .value)) fs k (both-right (mayFollow q bare f) _ o))
 
-  maps-only : (seen : List (List ℕ)) (q : ℕ) (bare : Bool) (fs : List Field) → inListingOrder q bare fs ≡ true → unrepeated named seen (upToNext principal fs) ≡ unrepeated named seen fs
+  maps-only : (seen : List (List ℕ)) (q : ℕ) (bare : Bool) (fs : List Field) → inListingOrder q bare fs ≡ true
+      → unrepeated named seen (upToNext principal fs) ≡ unrepeated named seen fs
   unfolding unrepeated inListingOrder upToNext repeats
   maps-only seen q bare [] o = refl
   maps-only seen q bare (f ∷ fs) o = go (isAt principal f) refl (maps-only (named f ++ seen) (f .place) (isEmpty (f .value)) fs rest)
@@ -83,13 +91,11 @@ module _ (named : Field → List (List ℕ)) (said : (f : Field) → named (says
   said-names seen [] = refl
   said-names seen (f ∷ fs) = rw (said f, said-names (named f ++ seen) fs) refl
 
-  pub names-filled : (fs : List Field) → inListingOrder 0 false fs ≡ true → allOf isNumbered fs ≡ true → repeated named [] fs ≡ 0 → repeated named [] (filledFields fs) ≡ 0
-  unfolding filledFields
+  pub names-filled : (fs : List Field) → inListingOrder 0 false fs ≡ true → allOf isNumbered fs ≡ true → repeated named [] fs ≡ 0
+      → repeated named [] (filledFields fs) ≡ 0
   names-filled fs o n h =
-      names-silent [] (numbered 1 0 (written fs))
-      (sym (said-names [] (numbered 1 0 (written fs)))
-      ∙ ap (unrepeated named []) (numbered-says 1 0 (written fs))
-      ∙ said-names [] (written fs)
+      names-silent [] (filledFields fs)
+      (filled-same (unrepeated named []) (said-names []) fs
       ∙ sym (maps-only [] 0 false (written fs) (written-order 0 false fs o))
       ∙ ap (unrepeated named []) (next-written fs)
       ∙ maps-only [] 0 false fs o
@@ -113,24 +119,24 @@ members-said p f = refl
 
 -- ---- 8
 
-module _ (fs : List Field) (o : inListingOrder 0 false fs ≡ true) (r : allOf isRight fs ≡ true) where
-  domains-filled : (p : ℕ) → p ≤ 7 → domainsAt p (filledFields fs) ≡ domainsAt p fs
-  unfolding filledFields
-  domains-filled p l = sym (domains-say p (numbered 1 0 (written fs))) ∙ ap (domainsAt p) (numbered-says 1 0 (written fs)) ∙ domains-say p (written fs) ∙ domains-written fs o p (omega arith)
+module _ (fs : List Field) (o : inListingOrder 0 false fs ≡ true) where
+  pub domains-filled : (p : ℕ) → p ≤ 7 → domainsAt p (filledFields fs) ≡ domainsAt p fs
+  domains-filled p l = filled-same (domainsAt p) (domains-say p) fs ∙ domains-written fs o p (omega arith)
 
-  identifiers-filled : (p : ℕ) → p ≤ 7 → identifiersAt p (filledFields fs) ≡ identifiersAt p fs
-  unfolding filledFields
-  identifiers-filled p l = sym (identifiers-say p (numbered 1 0 (written fs))) ∙ ap (identifiersAt p) (numbered-says 1 0 (written fs)) ∙ identifiers-say p (written fs) ∙ identifiers-written fs o p (omega arith)
+  pub identifiers-filled : (p : ℕ) → p ≤ 7 → identifiersAt p (filledFields fs) ≡ identifiersAt p fs
+  identifiers-filled p l = filled-same (identifiersAt p) (identifiers-say p) fs ∙ identifiers-written fs o p (omega arith)
 
   unknown-same : (f : Field) → namesUnknown (filledFields fs) f ≡ namesUnknown fs f
   unfolding namesUnknown
-  unknown-same f = rw (domains-filled subjectName (omega arith), domains-filled objectName (omega arith), identifiers-filled subjectMembers (omega arith)) refl
+  unknown-same f =
+      rw (domains-filled subjectName (omega arith), domains-filled objectName (omega arith), identifiers-filled subjectMembers (omega arith)) refl
 
-  pub known-filled : allOf (λ f. not (namesUnknown fs f)) fs ≡ true → unknownName (filledFields fs) ≡ 0
+  pub known-filled : allOf isRight fs ≡ true → allOf (λ f. not (namesUnknown fs f)) fs ≡ true → unknownName (filledFields fs) ≡ 0
   unfolding unknownName
-  known-filled h =
+  known-filled r h =
       first-silent (namesUnknown (filledFields fs)) (filledFields fs)
-      (allOf-weaker (λ f. not (namesUnknown fs f)) (λ f. not (namesUnknown (filledFields fs) f)) (λ f k. ap not (unknown-same f) ∙ k) (filledFields fs) (filled-passes (λ f. not (namesUnknown fs f)) (names-pass fs) fs o r h))
+      (allOf-weaker (λ f. not (namesUnknown fs f)) (λ f. not (namesUnknown (filledFields fs) f)) (λ f k. ap not (unknown-same f) ∙ k)
+      (filledFields fs) (filled-passes (λ f. not (namesUnknown fs f)) (names-pass fs) fs o r h))
 
 -- ---- 10
 
@@ -149,7 +155,8 @@ module _ (entry : List Field) where
   unfolding isUnbound isUnboundKey isAtOne unwritten
   nothing-bound p v e =
       rw e
-      (no-variable (anyOf (eqb p) (inObjectContexts uidIn)) (not (same v (valueAt (uidIn executionContext) entry))) (anyOf (eqb p) (inObjectContexts gidIn)) (not (same v (valueAt (gidIn executionContext) entry))))
+      (no-variable (anyOf (eqb p) (inObjectContexts uidIn)) (not (same v (valueAt (uidIn executionContext) entry)))
+      (anyOf (eqb p) (inObjectContexts gidIn)) (not (same v (valueAt (gidIn executionContext) entry))))
 
   bound-passes : Passes (λ f. not (isUnbound entry f))
   unfolding computing says unwritten
@@ -157,7 +164,9 @@ module _ (entry : List Field) where
     said = λ f. refl;
     bare = λ p n. nothing-bound p [] refl;
     none = λ p n. nothing-bound p (bytes "[]") refl;
-    default = λ p n. default-either p (λ v. not (isUnbound entry (unwritten p v)) ≡ true) (λ k. nothing-bound p (bytes "[all]") refl) (nothing-bound p (bytes "all") refl);
+    default =
+        λ p n. default-either p (λ v. not (isUnbound entry (unwritten p v)) ≡ true) (λ k. nothing-bound p (bytes "[all]") refl)
+        (nothing-bound p (bytes "all") refl);
   }
 
   unbound-same : (f : Field) → isUnbound (entryFields entry) f ≡ isUnbound entry f
@@ -168,8 +177,11 @@ module _ (entry : List Field) where
   unfolding allBound both
   entry-bound h =
       let p : (allBound entry && allOf isFilled entry) ≡ true = both-left (allBound entry && allOf isFilled entry) _ h in
-      allOf-weaker (λ f. not (isUnbound entry f)) (λ f. not (isUnbound (entryFields entry) f)) (λ f k. ap not (unbound-same f) ∙ k) (entryFields entry)
-      (entry-passes (λ f. not (isUnbound entry f)) bound-passes entry (allOf-both (λ f. not (isUnbound entry f)) isFilled entry (both-left (allBound entry) _ p) (both-right (allBound entry) _ p)) (both-right (allBound entry && allOf isFilled entry) _ h))
+      allOf-weaker (λ f. not (isUnbound entry f)) (λ f. not (isUnbound (entryFields entry) f)) (λ f k. ap not (unbound-same f) ∙ k)
+      (entryFields entry)
+      (entry-passes (λ f. not (isUnbound entry f)) bound-passes entry
+      (allOf-both (λ f. not (isUnbound entry f)) isFilled entry (both-left (allBound entry) _ p) (both-right (allBound entry) _ p))
+      (both-right (allBound entry && allOf isFilled entry) _ h))
 
 unbound-said : (e : List Field) (f : Field) → isUnbound (map says e) (says f) ≡ isUnbound e f
 unfolding isUnbound isUnboundKey isAtOne says unwritten
@@ -192,7 +204,11 @@ entries-said fs = rw (stretches-say principal fs) (all-bound-said (stretchesFrom
 bound-silent : (es : List (List Field)) → allOf allBound es ≡ true → earliest (map (λ entry. firstWith (isUnbound entry) entry) es) ≡ 0
 unfolding allOf allBound earliest earlier
 bound-silent [] h = refl
-bound-silent (e ∷ es) h = rw (first-silent (isUnbound e) e (both-left (allOf (λ f. not (isUnbound e f)) e) _ h), bound-silent es (both-right (allOf (λ f. not (isUnbound e f)) e) _ h)) refl
+bound-silent (e ∷ es) h =
+    rw (
+      first-silent (isUnbound e) e (both-left (allOf (λ f. not (isUnbound e f)) e) _ h),
+      bound-silent es (both-right (allOf (λ f. not (isUnbound e f)) e) _ h),
+    ) refl
 
 sound-entries : (fs : List Field) → inListingOrder 0 false fs ≡ true → allOf isRight fs ≡ true → allOf allBound (entriesOf fs) ≡ true
     → allOf (λ e. allBound e && allOf isFilled e && anyOf (isAt subjectOfEntry) e) (entriesOf fs) ≡ true
@@ -202,13 +218,13 @@ sound-entries fs o r h =
     (allOf-both allBound (allOf isFilled) (stretchesFrom principal fs) h (stretches-all principal isFilled fs (fields-filled 0 false fs o)))
     (subjects-said 0 false fs o r)
 
-pub bound-filled : (fs : List Field) → inListingOrder 0 false fs ≡ true → allOf isRight fs ≡ true → allOf (λ e. allOf (λ f. not (isUnbound e f)) e) (entriesOf fs) ≡ true → unboundVariable (filledFields fs) ≡ 0
-unfolding unboundVariable filledFields allBound
+pub bound-filled : (fs : List Field) → inListingOrder 0 false fs ≡ true → allOf isRight fs ≡ true
+    → allOf (λ e. allOf (λ f. not (isUnbound e f)) e) (entriesOf fs) ≡ true → unboundVariable (filledFields fs) ≡ 0
+unfolding unboundVariable allBound
 bound-filled fs o r h =
-    bound-silent (entriesOf (numbered 1 0 (written fs)))
-    (sym (entries-said (numbered 1 0 (written fs)))
-    ∙ ap (λ (gs : List Field). allOf allBound (entriesOf gs)) (numbered-says 1 0 (written fs))
-    ∙ entries-said (written fs)
+    bound-silent (entriesOf (filledFields fs))
+    (filled-same (λ gs. allOf allBound (entriesOf gs)) entries-said fs
     ∙ ap (allOf allBound) (entries-written fs)
     ∙ allOf-map entryFields allBound (entriesOf fs)
-    (allOf-weaker (λ e. allBound e && allOf isFilled e && anyOf (isAt subjectOfEntry) e) (λ e. allBound (entryFields e)) entry-bound (entriesOf fs) (sound-entries fs o r h)))
+    (allOf-weaker (λ e. allBound e && allOf isFilled e && anyOf (isAt subjectOfEntry) e) (λ e. allBound (entryFields e)) entry-bound (entriesOf fs)
+    (sound-entries fs o r h)))

@@ -3,21 +3,15 @@ use mathlib.Core.Path.{_≡_}
 use mathlib.Core.List.{List}
 use mathlib.Core.Bool.{true, false}
 use Prim.Native.Nat.{ℕ}
-use Rattle.paper.specs.Text.{lines}
-use Rattle.paper.specs.Page.{Field, fields, beforeFirst, pageOf}
+use Rattle.paper.specs.Page.{Field, fields, pageOf}
 use Rattle.paper.specs.Filled.{filledText}
 use Rattle.laws_page.specs.Right.{inListingOrder}
-use Rattle.laws_page.proofs.Right.{fields-in-order}
-use Rattle.laws_file.proofs.EachRule.{page-right}
+use Rattle.laws_file.proofs.EachRule.{page-right, page-in-order}
 use Rattle.laws_filled.specs.Fields.{filledFields, written}
 use Rattle.laws_filled.proofs.Text.{filled-text}
 use Rattle.laws_filled.proofs.Back.{written-read}
 use Rattle.laws_filled.proofs.WrittenRight.{written-right}
 use Rattle.laws_filled.proofs.WrittenOrder.{written-order}
-
-pub page-in-order : (t : List ℕ) (fs : List Field) → pageOf t ≡ fields fs → inListingOrder 0 false fs ≡ true
-unfolding pageOf beforeFirst
-page-in-order t fs page = fields-in-order beforeFirst 1 (lines t) fs page
 
 -- the page of the filled text is never refused, and has these fields
 pub filled-page : (t : List ℕ) (fs : List Field) → pageOf t ≡ fields fs → pageOf (filledText fs) ≡ fields (filledFields fs)

@@ -13,9 +13,9 @@ use Rattle.paper.specs.Policy.{descriptorOf, accessOf, entryOf, policyOf}
 use Rattle.laws.proofs.Tests.{both-left, both-right}
 use Rattle.laws_page.specs.Right.{inListingOrder}
 use Rattle.laws_file.proofs.Stretched.{allOf-both}
+use Rattle.laws_file.proofs.EachRule.{page-in-order}
 use Rattle.laws_filled.specs.Fields.{entryRest, entryFields, written, filledFields}
-use Rattle.laws_filled.proofs.FilledPage.{page-in-order}
-use Rattle.laws_filled.proofs.Says.{numbered-policy}
+use Rattle.laws_filled.proofs.Says.{filled-same, policy-says}
 use Rattle.laws_filled.proofs.Past.{noneAt, none-bare, none-both, none-here, rest-none, fields-front}
 use Rattle.laws_filled.proofs.SamePolicy.{bareAbove, entry-same, entries-written}
 use Rattle.laws_filled.proofs.Rows.{maps-first, reads-bare, writes-bare}
@@ -29,7 +29,8 @@ unfolding flatMap
 entries-none p [] l = none-here p
 entries-none p (e ∷ es) l = none-both p (entryFields e) (flatMap entryFields es) (entry-none p e l) (entries-none p es l)
 
-pub map-where : {A B C : Type 0} (h : A → B) (g : B → C) (f : A → C) (test : A → Bool) → ((x : A) → test x ≡ true → g (h x) ≡ f x) → (xs : List A) → allOf test xs ≡ true → map g (map h xs) ≡ map f xs
+pub map-where : {A B C : Type 0} (h : A → B) (g : B → C) (f : A → C) (test : A → Bool) → ((x : A) → test x ≡ true → g (h x) ≡ f x) → (xs : List A)
+    → allOf test xs ≡ true → map g (map h xs) ≡ map f xs
 unfolding allOf
 map-where h g f test e [] k = refl
 map-where h g f test e (x ∷ xs) k = rw (e x (both-left (test x) _ k), map-where h g f test e xs (both-right (test x) _ k)) refl
@@ -43,7 +44,8 @@ module _ (fs : List Field) (o : inListingOrder 0 false fs ≡ true) where
   -- the fields of a map
   pub fields-written : (p : ℕ) → p < 8 → fieldsAt p (written fs) ≡ fieldsAt p fs
   unfolding written
-  fields-written p l = fields-front p (upToNext principal fs) (flatMap entryFields (entriesOf fs)) (entries-none p (entriesOf fs) l) ∙ maps-first p l 0 false fs o
+  fields-written p l =
+      fields-front p (upToNext principal fs) (flatMap entryFields (entriesOf fs)) (entries-none p (entriesOf fs) l) ∙ maps-first p l 0 false fs o
 
   pub domains-written : (p : ℕ) → p < 8 → domainsAt p (written fs) ≡ domainsAt p fs
   unfolding domainsAt
@@ -64,7 +66,13 @@ module _ (fs : List Field) (o : inListingOrder 0 false fs ≡ true) where
 
   entry-written : (e : List Field) → entryOf (written fs) e ≡ entryOf fs e
   unfolding entryOf
-  entry-written e = rw (identifiers-written subjectMembers (omega arith), domains-written subjectName (omega arith), access-written canRead e, access-written canWrite e) refl
+  entry-written e =
+      rw (
+        identifiers-written subjectMembers (omega arith),
+        domains-written subjectName (omega arith),
+        access-written canRead e,
+        access-written canWrite e,
+      ) refl
 
   -- every entry
   entries-same : map (entryOf (written fs)) (entriesOf (written fs)) ≡ map (entryOf fs) (entriesOf fs)
@@ -77,9 +85,14 @@ module _ (fs : List Field) (o : inListingOrder 0 false fs ≡ true) where
   policy-written : policyOf (written fs) ≡ policyOf fs
   unfolding policyOf
   policy-written =
-      rw (domains-written objectName (omega arith), domains-written subjectName (omega arith), fields-written objectMembers (omega arith), fields-written subjectMembers (omega arith), entries-same) refl
+      rw (
+        domains-written objectName (omega arith),
+        domains-written subjectName (omega arith),
+        fields-written objectMembers (omega arith),
+        fields-written subjectMembers (omega arith),
+        entries-same,
+      ) refl
 
 -- the policy of the filled text is that of the text
 pub filled-policy : (t : List ℕ) (fs : List Field) → pageOf t ≡ fields fs → policyOf (filledFields fs) ≡ policyOf fs
-unfolding filledFields
-filled-policy t fs page = numbered-policy 1 0 (written fs) ∙ policy-written fs (page-in-order t fs page)
+filled-policy t fs page = filled-same policyOf policy-says fs ∙ policy-written fs (page-in-order t fs page)

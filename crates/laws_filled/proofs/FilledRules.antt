@@ -26,7 +26,8 @@ first-silent test [] h = refl
 first-silent test (f ∷ fs) h = rw (not-true (test f) (both-left (not (test f)) _ h)) (first-silent test fs (both-right (not (test f)) _ h))
 
 -- the default of a place
-pub default-either : (p : ℕ) (Holds : List ℕ → Type 0) → (anyOf (eqb p) callContexts ≡ true → Holds (bytes "[all]")) → Holds (bytes "all") → Holds (defaultAt p)
+pub default-either : (p : ℕ) (Holds : List ℕ → Type 0) → (anyOf (eqb p) callContexts ≡ true → Holds (bytes "[all]")) → Holds (bytes "all")
+    → Holds (defaultAt p)
 unfolding defaultAt
 default-either p Holds h k = go (anyOf (eqb p) callContexts) h
   where
@@ -44,7 +45,9 @@ long-passes = record {
   said = λ f. refl;
   bare = λ p n. and-false (anyOf (eqb p) callContexts);
   none = λ p n. and-false (anyOf (eqb p) callContexts);
-  default = λ p n. default-either p (λ v. not (anyOf (eqb p) callContexts && ltb mostElements (length (elements v))) ≡ true) (λ k. and-false (anyOf (eqb p) callContexts)) (and-false (anyOf (eqb p) callContexts));
+  default =
+      λ p n. default-either p (λ v. not (anyOf (eqb p) callContexts && ltb mostElements (length (elements v))) ≡ true)
+      (λ k. and-false (anyOf (eqb p) callContexts)) (and-false (anyOf (eqb p) callContexts));
 }
 
 -- no list that is put in has a name twice
@@ -54,7 +57,9 @@ lists-pass = record {
   said = λ f. refl;
   bare = λ p n. and-false (anyOf (eqb p) (subjectLists ++ objectLists));
   none = λ p n. and-false (anyOf (eqb p) (subjectLists ++ objectLists));
-  default = λ p n. default-either p (λ v. not (repeatsInList (unwritten p v)) ≡ true) (λ k. and-false (anyOf (eqb p) (subjectLists ++ objectLists))) (and-false (anyOf (eqb p) (subjectLists ++ objectLists)));
+  default =
+      λ p n. default-either p (λ v. not (repeatsInList (unwritten p v)) ≡ true) (λ k. and-false (anyOf (eqb p) (subjectLists ++ objectLists)))
+      (and-false (anyOf (eqb p) (subjectLists ++ objectLists)));
 }
 
 chain-false : (x y z : Bool) → not (cond x false (cond y false (z && false))) ≡ true
@@ -66,7 +71,8 @@ chain-false false false z = and-false z
 module _ (file : List Field) where
   nothing-named : (p : ℕ) (v : List ℕ) → elements v ≡ [] → (p ≡ subjectOfEntry → ⊥) → not (namesUnknown file (unwritten p v)) ≡ true
   unfolding namesUnknown isAtOne unwritten Rattle.paper.specs.Rules.allKnown allOf
-  nothing-named p v e n = rw (ne-eqb p subjectOfEntry n, e) (chain-false (anyOf (eqb p) subjectLists) (anyOf (eqb p) objectLists) (anyOf (eqb p) callContexts))
+  nothing-named p v e n =
+      rw (ne-eqb p subjectOfEntry n, e) (chain-false (anyOf (eqb p) subjectLists) (anyOf (eqb p) objectLists) (anyOf (eqb p) callContexts))
 
   all-known : allOf (λ p. not (namesUnknown file (unwritten p (bytes "[all]")))) callContexts ≡ true
   unfolding computing unwritten
@@ -78,5 +84,8 @@ module _ (file : List Field) where
     said = λ f. refl;
     bare = λ p n. nothing-named p [] refl n;
     none = λ p n. nothing-named p (bytes "[]") refl n;
-    default = λ p n. default-either p (λ v. not (namesUnknown file (unwritten p v)) ≡ true) (λ k. among-all (λ q. not (namesUnknown file (unwritten q (bytes "[all]")))) p callContexts k all-known) (nothing-named p (bytes "all") refl n);
+    default =
+        λ p n. default-either p (λ v. not (namesUnknown file (unwritten p v)) ≡ true)
+        (λ k. among-all (λ q. not (namesUnknown file (unwritten q (bytes "[all]")))) p callContexts k all-known)
+        (nothing-named p (bytes "all") refl n);
   }

@@ -4,16 +4,18 @@ use mathlib.Core.List.{List, [], _∷_, _++_, map, flatMap}
 use mathlib.Core.Bool.{true, false, _&&_}
 use Prim.Native.Nat.{ℕ}
 use lib.ListN.{length, length-map}
-use Rattle.paper.specs.Listing.{principal, subjectOfEntry, executionContext, canCall, canReturn, canRead, canWrite, callContextIn, uidIn, gidIn, objectsIn, objectContextIn}
+use Rattle.paper.specs.Listing.{principal, subjectOfEntry, executionContext, canCall, canReturn, canRead, canWrite, callContextIn, uidIn, gidIn}
+use Rattle.paper.specs.Listing.{objectsIn, objectContextIn}
 use Rattle.paper.specs.Page.{Field, fields, pageOf}
 use Rattle.paper.specs.Entries.{valueAt, upToNext, stretchesFrom, entriesOf, itemsOf}
 use Rattle.paper.specs.Filled.{writtenLine, valueLine, contextText, itemText, accessText, entryText, filledText}
 use Rattle.laws.proofs.Tests.{both-left, both-right}
 use Rattle.laws_page.specs.Right.{inListingOrder}
-use Rattle.laws_filled.specs.Fields.{unwritten, itemFields, entryFields, numbered, written, filledFields}
-use Rattle.laws_filled.proofs.FilledPage.{page-in-order}
-use Rattle.laws_filled.proofs.Says.{says, numbered-says, value-says, next-says, stretches-say, map-same}
-use Rattle.laws_filled.proofs.SamePolicy.{bareAbove, item-objects, item-call, item-uid, item-gid, front-values, AccessAgain, reads-again, writes-again, entries-written}
+use Rattle.laws_file.proofs.EachRule.{page-in-order}
+use Rattle.laws_filled.specs.Fields.{unwritten, itemFields, entryFields, written, filledFields}
+use Rattle.laws_filled.proofs.Says.{says, filled-same, value-says, next-says, stretches-say, map-same}
+use Rattle.laws_filled.proofs.SamePolicy.{bareAbove, item-objects, item-call, item-uid, item-gid, front-values, AccessAgain, reads-again}
+use Rattle.laws_filled.proofs.SamePolicy.{writes-again, entries-written}
 use Rattle.laws_filled.proofs.FilledPolicy.{all-bare, map-where}
 use Rattle.laws_filled.proofs.FilledNames.{next-written}
 
@@ -24,10 +26,11 @@ joined f [] = refl
 joined f (x ∷ xs) = rw (joined f xs) refl
 
 same-lengths : {A : Type 0} (f : A → List ℕ) (xs ys : List A) → map f xs ≡ map f ys → length xs ≡ length ys
-same-lengths f xs ys e = let k : length (map f xs) ≡ length (map f ys) = ap length e in rw (length-map, length-map) at k
+same-lengths f xs ys e = sym (length-map xs f) ∙ ap length e ∙ length-map ys f
 
 -- the text of `can_read` or `can_write` from its value and from the texts of its items
-access-from : (a : ℕ) (e d : List Field) → valueAt a e ≡ valueAt a d → map (itemText a) (itemsOf a e) ≡ map (itemText a) (itemsOf a d) → accessText a e ≡ accessText a d
+access-from : (a : ℕ) (e d : List Field) → valueAt a e ≡ valueAt a d → map (itemText a) (itemsOf a e) ≡ map (itemText a) (itemsOf a d)
+    → accessText a e ≡ accessText a d
 unfolding accessText valueLine
 access-from a e d v i =
     let n : length (itemsOf a e) ≡ length (itemsOf a d) = same-lengths (itemText a) (itemsOf a e) (itemsOf a d) i in
@@ -38,7 +41,12 @@ access-from a e d v i =
 item-text-says : (a : ℕ) (i : List Field) → itemText a (map says i) ≡ itemText a i
 unfolding itemText contextText valueLine
 item-text-says a i =
-    rw (value-says (objectsIn a) i, value-says (callContextIn (objectContextIn a)) i, value-says (uidIn (objectContextIn a)) i, value-says (gidIn (objectContextIn a)) i) refl
+    rw (
+      value-says (objectsIn a) i,
+      value-says (callContextIn (objectContextIn a)) i,
+      value-says (uidIn (objectContextIn a)) i,
+      value-says (gidIn (objectContextIn a)) i,
+    ) refl
 
 items-say : (a : ℕ) (e : List Field) → map (itemText a) (itemsOf a (map says e)) ≡ map (itemText a) (itemsOf a e)
 unfolding itemsOf
@@ -91,16 +99,10 @@ entry-text-again : (e : List Field) → (bareAbove canRead e && bareAbove canWri
 unfolding entryText contextText valueLine
 entry-text-again e h =
     let v = front-values e in
-    rw (
-      v .subject,
-      v .call-context,
-      v .uid,
-      v .gid,
-      v .call,
-      v .return,
-      access-text-again canRead e (reads-again e (itemText canRead) (item-text-again canRead) (both-left (bareAbove canRead e) _ h)),
-      access-text-again canWrite e (writes-again e (itemText canWrite) (item-text-again canWrite) (both-right (bareAbove canRead e) _ h)),
-    ) refl
+    let reads = access-text-again canRead e (reads-again e (itemText canRead) (item-text-again canRead) (both-left (bareAbove canRead e) _ h)) in
+    let writes = access-text-again canWrite e
+    (writes-again e (itemText canWrite) (item-text-again canWrite) (both-right (bareAbove canRead e) _ h)) in
+    rw (v .subject, v .call-context, v .uid, v .gid, v .call, v .return, reads, writes) refl
 
 text-written : (fs : List Field) → inListingOrder 0 false fs ≡ true → filledText (written fs) ≡ filledText fs
 unfolding filledText
@@ -115,6 +117,4 @@ text-written fs o =
 
 -- filling twice is filling once
 pub filled-twice : (t : List ℕ) (fs : List Field) → pageOf t ≡ fields fs → filledText (filledFields fs) ≡ filledText fs
-unfolding filledFields
-filled-twice t fs page =
-    sym (text-says (numbered 1 0 (written fs))) ∙ ap filledText (numbered-says 1 0 (written fs)) ∙ text-says (written fs) ∙ text-written fs (page-in-order t fs page)
+filled-twice t fs page = filled-same filledText text-says fs ∙ text-written fs (page-in-order t fs page)

@@ -1,5 +1,5 @@
 -- 11 of the filled text: its entries have the principals that they had, so that no two are the same.
-use mathlib.Core.Path.{_≡_, refl, sym, ap, _∙_}
+use mathlib.Core.Path.{_≡_, refl, ap, _∙_}
 use mathlib.Core.List.{List, [], _∷_, map}
 use mathlib.Core.Bool.{Bool, true, false, cond, not, _&&_}
 use Prim.Native.Nat.{ℕ, _≤_}
@@ -7,17 +7,15 @@ use native.Mathlib.Omega.{arith}
 use lib.Dec.{leb}
 use borrow.Author.Tests.{leb-true, not-true}
 use Rattle.paper.specs.Common.{allOf, anyOf}
-use Rattle.paper.specs.Text.{lines}
 use Rattle.paper.specs.Listing.{principal, subjectOfEntry, executionContext, callContextIn, uidIn, gidIn}
-use Rattle.paper.specs.Page.{Field, fields, beforeFirst, pageOf}
+use Rattle.paper.specs.Page.{Field, fields, pageOf}
 use Rattle.paper.specs.Entries.{stretchesFrom, entriesOf, lineOfEntry}
 use Rattle.paper.specs.Rules.{samePrincipal, twinAfter, twinPrincipal}
 use Rattle.laws.proofs.Tests.{both-left, both-right}
-use Rattle.laws_page.specs.Right.{isNumbered}
-use Rattle.laws_page.proofs.Right.{fields-numbered}
-use Rattle.laws_file.proofs.Stretched.{stretches-numbered}
-use Rattle.laws_filled.specs.Fields.{entryFields, numbered, written, filledFields}
-use Rattle.laws_filled.proofs.Says.{says, numbered-says, value-says, stretches-say}
+use Rattle.laws_file.proofs.Kept.{entries-numbered}
+use Rattle.laws_file.proofs.EachRule.{page-numbered}
+use Rattle.laws_filled.specs.Fields.{entryFields, filledFields}
+use Rattle.laws_filled.proofs.Says.{says, filled-same, value-says, stretches-say}
 use Rattle.laws_filled.proofs.SamePolicy.{front-values, entries-written}
 
 -- no entry has the principal of one before it
@@ -29,14 +27,16 @@ twins-silent : (seen es : List (List Field)) → noTwins seen es ≡ true → tw
 unfolding noTwins twinAfter
 twins-silent seen [] h = refl
 twins-silent seen (e ∷ es) h =
-    rw (not-true (anyOf (samePrincipal e) seen) (both-left (not (anyOf (samePrincipal e) seen)) _ h)) (twins-silent (e ∷ seen) es (both-right (not (anyOf (samePrincipal e) seen)) _ h))
+    rw (not-true (anyOf (samePrincipal e) seen) (both-left (not (anyOf (samePrincipal e) seen)) _ h))
+    (twins-silent (e ∷ seen) es (both-right (not (anyOf (samePrincipal e) seen)) _ h))
 
 silent-twins : (seen es : List (List Field)) → allOf (λ e. leb 1 (lineOfEntry e)) es ≡ true → twinAfter seen es ≡ 0 → noTwins seen es ≡ true
 unfolding noTwins twinAfter allOf
 silent-twins seen [] n h = refl
 silent-twins seen (e ∷ es) n h = go (anyOf (samePrincipal e) seen) h (silent-twins (e ∷ seen) es (both-right (leb 1 (lineOfEntry e)) _ n))
   where
-    go : (t : Bool) → cond t (lineOfEntry e) (twinAfter (e ∷ seen) es) ≡ 0 → (twinAfter (e ∷ seen) es ≡ 0 → noTwins (e ∷ seen) es ≡ true) → (not t && noTwins (e ∷ seen) es) ≡ true
+    go : (t : Bool) → cond t (lineOfEntry e) (twinAfter (e ∷ seen) es) ≡ 0 → (twinAfter (e ∷ seen) es ≡ 0 → noTwins (e ∷ seen) es ≡ true)
+        → (not t && noTwins (e ∷ seen) es) ≡ true
     go true k ih = absurd (let l : 1 ≤ lineOfEntry e = leb-true 1 (lineOfEntry e) (both-left (leb 1 (lineOfEntry e)) _ n) in omega arith)
     go false k ih = ih k
 
@@ -78,21 +78,14 @@ unfolding entriesOf
 said-twins fs = rw (stretches-say principal fs) (twins-kept (map says) says-principal [] (stretchesFrom principal fs))
 
 filled-no-twins : (fs : List Field) → noTwins [] (entriesOf (filledFields fs)) ≡ noTwins [] (entriesOf fs)
-unfolding filledFields
 filled-no-twins fs =
-    sym (said-twins (numbered 1 0 (written fs)))
-    ∙ ap (λ (gs : List Field). noTwins [] (entriesOf gs)) (numbered-says 1 0 (written fs))
-    ∙ said-twins (written fs)
+    filled-same (λ gs. noTwins [] (entriesOf gs)) said-twins fs
     ∙ ap (noTwins []) (entries-written fs)
     ∙ twins-kept entryFields filled-principal [] (entriesOf fs)
 
-entries-numbered : (fs : List Field) → allOf isNumbered fs ≡ true → allOf (λ e. leb 1 (lineOfEntry e)) (entriesOf fs) ≡ true
-unfolding entriesOf
-entries-numbered fs n = stretches-numbered principal fs n
-
 -- no two entries of the filled text have the same principal
 pub filled-twins : (t : List ℕ) (fs : List Field) → pageOf t ≡ fields fs → twinPrincipal fs ≡ 0 → twinPrincipal (filledFields fs) ≡ 0
-unfolding pageOf twinPrincipal
+unfolding twinPrincipal
 filled-twins t fs page none =
     twins-silent [] (entriesOf (filledFields fs))
-    (filled-no-twins fs ∙ silent-twins [] (entriesOf fs) (entries-numbered fs (fields-numbered beforeFirst 1 (lines t) fs (omega arith) page)) none)
+    (filled-no-twins fs ∙ silent-twins [] (entriesOf fs) (entries-numbered fs (page-numbered t fs page)) none)

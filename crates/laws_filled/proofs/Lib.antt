@@ -16,5 +16,9 @@ pub mod FilledLimits
 pub mod EveryField
 pub mod FilledRules
 pub mod FilledNames
+pub mod Filler
 pub mod RoundTrip
 pub mod FilledTwice
+pub mod FilledAgain
+pub mod NothingLost
+pub mod CleanLines

@@ -1,7 +1,7 @@
 -- A line that begins with a key that may stand there is found at that key's place: no key of one row begins another, by computing them all.
 use mathlib.Core.Path.{_≡_, refl, sym, ap, _∙_}
 use mathlib.Core.List.{List, [], _∷_, _++_}
-use mathlib.Core.Bool.{Bool, true, false, cond, not, _&&_, _||_, false≢true}
+use mathlib.Core.Bool.{Bool, true, false, cond, not, _&&_, _||_, Bool·beq, false≢true}
 use mathlib.Core.Logic.{⊎-elim}
 use Prim.Native.Nat.{ℕ, suc, _+_, _<_, _≤_}
 use native.Mathlib.Omega.{arith}
@@ -14,6 +14,7 @@ use Rattle.paper.specs.Common.{bytes, within, allOf, anyOf, isFrontOf}
 use Rattle.paper.specs.Text.{space, hash, column, skipped}
 use Rattle.paper.specs.Listing.{nowhere, Row, row, listing, rowAt, keyAt, dashed, alongside, beginsBlock, atBlock}
 use Rattle.paper.specs.Page.{placeOf}
+use Rattle.laws_filled.specs.Clean.{lastByte}
 use Rattle.laws.proofs.Tests.{both-left, both-right, either-of, neither, le-or-lt}
 use Rattle.laws.proofs.Counting.{allOf-at}
 
@@ -24,7 +25,8 @@ unfolding column
 column-front [] r h = absurd (omega arith)
 column-front (b ∷ bs) r h = go (eqb b space) h (column-front bs r)
   where
-    go : (t : Bool) → cond t (column bs + 1) 0 < suc (length bs) → (column bs < length bs → column (bs ++ r) ≡ column bs) → cond t (column (bs ++ r) + 1) 0 ≡ cond t (column bs + 1) 0
+    go : (t : Bool) → cond t (column bs + 1) 0 < suc (length bs) → (column bs < length bs → column (bs ++ r) ≡ column bs)
+        → cond t (column (bs ++ r) + 1) 0 ≡ cond t (column bs + 1) 0
     go true l ih = ap (λ (n : ℕ). n + 1) (ih (omega arith))
     go false l ih = refl
 
@@ -87,9 +89,9 @@ module _ (k r : List ℕ) (b : begins k ≡ true) where
 
 -- ---- the rows of the listing
 
--- a place has a key that may begin a line
+-- a place has a key that may begin a line, and end one
 unfoldable isKey : ℕ → Bool
-isKey p = not (eqb p nowhere) && begins (keyAt p) && allOf (within 0x20 0x7E) (keyAt p)
+isKey p = not (eqb p nowhere) && begins (keyAt p) && allOf (within 0x20 0x7E) (keyAt p) && not (eqb (lastByte (keyAt p)) space)
 
 -- neither key begins the other
 unfoldable apart : ℕ → ℕ → Bool
@@ -100,28 +102,23 @@ allApart [] = true
 allApart (q ∷ qs) = allOf (apart q) qs && allApart qs
 
 -- a key stands where the block begins, or does not
-unfoldable standsIn : List ℕ → ℕ → Bool
-standsIn block p = isKey p && beginsBlock block (keyAt p)
+unfoldable standsAs : Bool → List ℕ → ℕ → Bool
+standsAs here block p = isKey p && Bool·beq (beginsBlock block (keyAt p)) here
 
-unfoldable standsOut : List ℕ → ℕ → Bool
-standsOut block p = isKey p && not (beginsBlock block (keyAt p))
+-- each of these does, and can be told from the others
+unfoldable told : Bool → List ℕ → List ℕ → Bool
+told here block ps = allOf (standsAs here block) ps && allApart ps
 
--- the keys of a row's block stand in it, those that follow it do not, and each can be told from the others
-unfoldable blockTold : Row → Bool
-blockTold r = allOf (standsIn (r .block)) (r .block) && allApart (r .block)
-
-unfoldable nextTold : Row → Bool
-nextTold r = allOf (standsOut (r .block)) (r .next) && allApart (r .next)
-
+-- the keys of a row's block stand in it, those that follow it do not
 unfoldable toldApart : Row → Bool
-toldApart r = blockTold r && nextTold r
+toldApart r = told true (r .block) (r .block) && told false (r .block) (r .next)
 
 listing-apart : allOf toldApart listing ≡ true
-unfolding allOf listing toldApart blockTold nextTold standsIn standsOut allApart apart isKey begins isFrontOf beginsBlock alongside dashed column rowAt keyAt
+unfolding allOf listing toldApart told standsAs allApart apart isKey begins lastByte isFrontOf beginsBlock alongside dashed column rowAt keyAt
 listing-apart = refl
 
 none-apart : toldApart (row "" Keys [] [] false) ≡ true
-unfolding allOf toldApart blockTold nextTold allApart
+unfolding allOf toldApart told allApart
 none-apart = refl
 
 row-apart : (place : ℕ) → toldApart (rowAt place) ≡ true
@@ -131,6 +128,12 @@ row-apart place =
     (λ (h : length listing ≤ place). rw (List·getD-eq-default listing (row "" Keys [] [] false) {n = place} h) none-apart)
     (λ (h : place < length listing). allOf-at toldApart (row "" Keys [] [] false) listing listing-apart place h)
     (le-or-lt (length listing) place)
+
+beq-same : (a b : Bool) → Bool·beq a b ≡ true → a ≡ b
+beq-same true true e = refl
+beq-same true false e = absurd (false≢true e)
+beq-same false true e = absurd (false≢true e)
+beq-same false false e = refl
 
 -- what holds of all of these holds of each
 pub among-all : (test : ℕ → Bool) (p : ℕ) (ps : List ℕ) → anyOf (eqb p) ps ≡ true → allOf test ps ≡ true → test p ≡ true
@@ -151,8 +154,10 @@ place-found (q ∷ ps) p r a h = go (eqb p q) refl a (λ b. place-found ps p r b
         → cond (isFrontOf (keyAt q) (keyAt p ++ r)) q (placeOf ps (keyAt p ++ r)) ≡ p
     go true e b ih = let s : p ≡ q = eqb-true p q e in rw (s, front-itself (keyAt q) r) refl
     go false e b ih =
-        let d : (not (isFrontOf (keyAt q) (keyAt p)) && not (isFrontOf (keyAt p) (keyAt q))) ≡ true = among-all (apart q) p ps b (both-left (allOf (apart q) ps) (allApart ps) h) in
-        rw (front-apart (keyAt q) (keyAt p) r (not-true (isFrontOf (keyAt q) (keyAt p)) (both-left (not (isFrontOf (keyAt q) (keyAt p))) _ d)) (not-true (isFrontOf (keyAt p) (keyAt q)) (both-right (not (isFrontOf (keyAt q) (keyAt p))) _ d))) (ih b)
+        let d : (not (isFrontOf (keyAt q) (keyAt p)) && not (isFrontOf (keyAt p) (keyAt q))) ≡ true
+        = among-all (apart q) p ps b (both-left (allOf (apart q) ps) (allApart ps) h) in
+        rw (front-apart (keyAt q) (keyAt p) r (not-true (isFrontOf (keyAt q) (keyAt p)) (both-left (not (isFrontOf (keyAt q) (keyAt p))) _ d))
+        (not-true (isFrontOf (keyAt p) (keyAt q)) (both-right (not (isFrontOf (keyAt q) (keyAt p))) _ d))) (ih b)
 
 -- ---- a line that begins with the key of place p, after a field of another place
 
@@ -160,38 +165,43 @@ place-found (q ∷ ps) p r a h = go (eqb p q) refl a (λ b. place-found ps p r b
 pub record Found (place : ℕ) (here : Bool) (ps : List ℕ) (p : ℕ) (r : List ℕ) : Type 0 where
   pub somewhere : eqb p nowhere ≡ false
   pub stands : allOf (within 0x20 0x7E) (keyAt p) ≡ true
+  pub ends : eqb (lastByte (keyAt p)) space ≡ false
   pub counts : skipped (keyAt p ++ r) ≡ false
   pub block : atBlock place (keyAt p ++ r) ≡ here
   pub found : placeOf ps (keyAt p ++ r) ≡ p
 
 module _ (place p : ℕ) (r : List ℕ) where
-  found-one : (here : Bool) (ps : List ℕ) → isKey p ≡ true → beginsBlock (rowAt place .block) (keyAt p) ≡ here → anyOf (eqb p) ps ≡ true → allApart ps ≡ true → Found place here ps p r
+  found-one : (here : Bool) (ps : List ℕ) → isKey p ≡ true → beginsBlock (rowAt place .block) (keyAt p) ≡ here → anyOf (eqb p) ps ≡ true
+      → allApart ps ≡ true → Found place here ps p r
   unfolding isKey atBlock
   found-one here ps k b a s =
-      let f : (not (eqb p nowhere) && begins (keyAt p)) ≡ true = both-left (not (eqb p nowhere) && begins (keyAt p)) _ k in
+      let e : (not (eqb p nowhere) && begins (keyAt p) && allOf (within 0x20 0x7E) (keyAt p)) ≡ true
+      = both-left (not (eqb p nowhere) && begins (keyAt p) && allOf (within 0x20 0x7E) (keyAt p)) _ k in
+      let f : (not (eqb p nowhere) && begins (keyAt p)) ≡ true = both-left (not (eqb p nowhere) && begins (keyAt p)) _ e in
       let g : begins (keyAt p) ≡ true = both-right (not (eqb p nowhere)) _ f in
       record {
         somewhere = not-true _ (both-left (not (eqb p nowhere)) _ f);
-        stands = both-right (not (eqb p nowhere) && begins (keyAt p)) _ k;
+        stands = both-right (not (eqb p nowhere) && begins (keyAt p)) _ e;
+        ends = not-true _ (both-right (not (eqb p nowhere) && begins (keyAt p) && allOf (within 0x20 0x7E) (keyAt p)) _ k);
         counts = not-skipped (keyAt p) r g;
         block = same-block (keyAt p) r g (rowAt place .block) ∙ b;
         found = place-found ps p r a s;
       }
 
+  found-told : (here : Bool) (ps : List ℕ) → told here (rowAt place .block) ps ≡ true → anyOf (eqb p) ps ≡ true → Found place here ps p r
+  unfolding told standsAs
+  found-told here ps h a =
+      let k : standsAs here (rowAt place .block) p ≡ true
+      = among-all (standsAs here (rowAt place .block)) p ps a (both-left (allOf (standsAs here (rowAt place .block)) ps) _ h) in
+      found-one here ps (both-left (isKey p) _ k) (beq-same (beginsBlock (rowAt place .block) (keyAt p)) here (both-right (isKey p) _ k)) a
+      (both-right (allOf (standsAs here (rowAt place .block)) ps) (allApart ps) h)
+
   -- it begins the block of that place
   pub found-block : anyOf (eqb p) (rowAt place .block) ≡ true → Found place true (rowAt place .block) p r
-  unfolding toldApart blockTold standsIn
-  found-block a =
-      let h : blockTold (rowAt place) ≡ true = both-left (blockTold (rowAt place)) (nextTold (rowAt place)) (row-apart place) in
-      let k : standsIn (rowAt place .block) p ≡ true = among-all (standsIn (rowAt place .block)) p (rowAt place .block) a (both-left (allOf (standsIn (rowAt place .block)) (rowAt place .block)) _ h) in
-      found-one true (rowAt place .block) (both-left (isKey p) _ k) (both-right (isKey p) _ k) a
-      (both-right (allOf (standsIn (rowAt place .block)) (rowAt place .block)) (allApart (rowAt place .block)) h)
+  unfolding toldApart
+  found-block a = found-told true (rowAt place .block) (both-left (told true (rowAt place .block) (rowAt place .block)) _ (row-apart place)) a
 
   -- it follows that place
   pub found-next : anyOf (eqb p) (rowAt place .next) ≡ true → Found place false (rowAt place .next) p r
-  unfolding toldApart nextTold standsOut
-  found-next a =
-      let h : nextTold (rowAt place) ≡ true = both-right (blockTold (rowAt place)) (nextTold (rowAt place)) (row-apart place) in
-      let k : standsOut (rowAt place .block) p ≡ true = among-all (standsOut (rowAt place .block)) p (rowAt place .next) a (both-left (allOf (standsOut (rowAt place .block)) (rowAt place .next)) _ h) in
-      found-one false (rowAt place .next) (both-left (isKey p) _ k) (not-true _ (both-right (isKey p) _ k)) a
-      (both-right (allOf (standsOut (rowAt place .block)) (rowAt place .next)) (allApart (rowAt place .next)) h)
+  unfolding toldApart
+  found-next a = found-told false (rowAt place .next) (both-right (told true (rowAt place .block) (rowAt place .block)) _ (row-apart place)) a

@@ -43,7 +43,8 @@ module _ (p : ℕ) where
   fields-append [] ys = refl
   fields-append (f ∷ fs) ys = go (isAt p f) (fields-append fs ys)
     where
-      go : (t : Bool) → fieldsAt p (fs ++ ys) ≡ fieldsAt p fs ++ fieldsAt p ys → cond t (f ∷ fieldsAt p (fs ++ ys)) (fieldsAt p (fs ++ ys)) ≡ cond t (f ∷ fieldsAt p fs) (fieldsAt p fs) ++ fieldsAt p ys
+      go : (t : Bool) → fieldsAt p (fs ++ ys) ≡ fieldsAt p fs ++ fieldsAt p ys
+          → cond t (f ∷ fieldsAt p (fs ++ ys)) (fieldsAt p (fs ++ ys)) ≡ cond t (f ∷ fieldsAt p fs) (fieldsAt p fs) ++ fieldsAt p ys
       go true e = rw e refl
       go false e = e
 
@@ -56,7 +57,8 @@ module _ (p : ℕ) where
   none-before [] = refl
   none-before (f ∷ fs) = go (isAt p f) refl (none-before fs)
     where
-      go : (t : Bool) → isAt p f ≡ t → allOf (λ f. not (isAt p f)) (upToNext p fs) ≡ true → allOf (λ f. not (isAt p f)) (cond t [] (f ∷ upToNext p fs)) ≡ true
+      go : (t : Bool) → isAt p f ≡ t → allOf (λ f. not (isAt p f)) (upToNext p fs) ≡ true
+          → allOf (λ f. not (isAt p f)) (cond t [] (f ∷ upToNext p fs)) ≡ true
       go true e h = refl
       go false e h = both-true (not (isAt p f)) _ (ap not e) h
 
@@ -113,7 +115,8 @@ module _ (p : ℕ) where
       (none-both (contextFields 10 e) _ (context-none 10 e (λ q l u. n q (omega arith)))
       (none-value 14 e _ (n 14 (omega arith))
       (none-value 15 e _ (n 15 (omega arith))
-      (none-both (accessFields 16 e) (accessFields 22 e) (access-none 16 e (λ q l u. n q (omega arith))) (access-none 22 e (λ q l u. n q (omega arith)))))))
+      (none-both (accessFields 16 e) (accessFields 22 e) (access-none 16 e (λ q l u. n q (omega arith)))
+      (access-none 22 e (λ q l u. n q (omega arith)))))))
 
 -- ---- the value of a field that is written, and of one behind it
 

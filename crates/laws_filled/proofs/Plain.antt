@@ -15,7 +15,8 @@ use Rattle.paper.specs.declared.Value.{Value}
 use Rattle.paper.specs.declared.Value.the-variants.{Keys, NoneOrItems, AllOrKeys, AllNoneOrItems, One, ListOf, SomeOf, ListOrAll}
 use Rattle.paper.specs.Common.{bytes, within, allOf, anyOf, same, is, isOne, cut}
 use Rattle.paper.specs.Text.{space, bar, openBracket, closeBracket}
-use Rattle.paper.specs.Scalars.{isLetter, isDigit, nameByte, isName, isDomainName, isVariable, isUid, isGid, identifierByte, identifierFirst, partsFit, isIdentifier, isScalar}
+use Rattle.paper.specs.Scalars.{isLetter, isDigit, nameByte, isName, isDomainName, isVariable, isUid, isGid, identifierByte, identifierFirst}
+use Rattle.paper.specs.Scalars.{partsFit, isIdentifier, isScalar}
 use Rattle.paper.specs.Lists.{bracketed, elements, listFault}
 use Rattle.paper.specs.Listing.{valueFault}
 use Rattle.laws.proofs.Tests.{both-true, both-left, both-right, either-of, same-equal}

@@ -1,43 +1,37 @@
 -- "Reading the filled text, where the filler didn't refuse, gives the same table": its fields hold to every rule, and their policy is the same.
 use mathlib.Core.Path.{_≡_, refl, _∙_}
-use mathlib.Core.List.{List, [], _++_}
-use mathlib.Core.Bool.{Bool, true, false, cond, not}
+use mathlib.Core.List.{List, []}
+use mathlib.Core.Bool.{not}
 use Prim.Native.Nat.{ℕ, _≤_}
 use native.Mathlib.Omega.{arith}
-use lib.Dec.{ltb}
-use lib.ListN.{length, take, drop}
-use lib.Seq.{take-at}
-use borrow.Author.Tests.{eqb-true, ltb-false}
+use lib.ListN.{length, take}
+use borrow.Author.Tests.{eqb-true, le-ltb}
 use Rattle.paper.specs.Common.{allOf}
-use Rattle.paper.specs.Limits.{textBytes, mostDomains, mostMembers, mostEntries, mostDescriptors}
-use Rattle.paper.specs.Text.{lines, noLine}
+use Rattle.paper.specs.Limits.{textBytes, tableWords, mostDomains, mostMembers, mostEntries, mostDescriptors}
 use Rattle.paper.specs.Listing.{objectName, objectMembers, subjectName, subjectMembers, principal}
-use Rattle.paper.specs.Page.{Field, Outcome, fields, fault, beforeFirst, pageOf}
+use Rattle.paper.specs.Page.{Field, fields, pageOf}
 use Rattle.paper.specs.Entries.{entriesOf, lineOfEntry}
-use Rattle.paper.specs.Rules.{earlier, earliest, firstWith, oneAt, membersAt, descriptorsIn, longPattern, overLimit, repeated, domainNamed, membersNamed, repeatsInList, namedTwice, unlessLine, ruled}
-use Rattle.paper.specs.declared.Filling.the-variants.{Written, Unfilled}
+use Rattle.paper.specs.Rules.{earlier, earliest, firstWith, oneAt, membersAt, descriptorsIn, longPattern, overLimit, repeated, domainNamed}
+use Rattle.paper.specs.Rules.{membersNamed, repeatsInList, namedTwice, unlessLine, ruled}
+use Rattle.paper.specs.declared.Reading.the-variants.{Accepted}
+use Rattle.paper.specs.declared.Filling.the-variants.{Written}
 use Rattle.paper.specs.Filled.{filledText}
-use Rattle.paper.specs.Promises.{fileOf, readLeaves, writtenIn, fillingOf, fillAnswer, fillLeaves}
+use Rattle.paper.specs.Promises.{fileOf, readAnswer, readLeaves, fillAnswer, fillLeaves}
 use Rattle.laws.proofs.Tests.{both-left, both-right}
-use Rattle.laws_page.specs.Right.{isNumbered}
-use Rattle.laws_page.proofs.Right.{fields-numbered}
 use Rattle.laws_file.proofs.Scans.{earliest-none, first-none}
 use Rattle.laws_file.proofs.Kept.{NoLine, no-line, Counted, counted, all-known, all-bound}
-use Rattle.laws_file.proofs.EachRule.{page-right}
+use Rattle.laws_file.proofs.EachRule.{page-right, page-numbered, page-in-order}
 use Rattle.laws_file.proofs.Reader.{accepted-page}
 use Rattle.laws_filled.specs.Fields.{filledFields}
-use Rattle.laws_filled.proofs.FilledPage.{page-in-order}
+use Rattle.laws_filled.proofs.Filler.{was-filled, left-text}
 use Rattle.laws_filled.proofs.FilledPolicy.{filled-policy}
 use Rattle.laws_filled.proofs.FilledFile.{filled-ruled}
 use Rattle.laws_filled.proofs.FilledTwins.{filled-twins}
-use Rattle.laws_filled.proofs.FilledLimits.{passing-silent, same-object-domains, same-subject-domains, same-objects, same-functions, same-entries, same-descriptors}
+use Rattle.laws_filled.proofs.FilledLimits.{passing-silent, same-object-domains, same-subject-domains, same-objects, same-functions}
+use Rattle.laws_filled.proofs.FilledLimits.{same-entries, same-descriptors}
 use Rattle.laws_filled.proofs.EveryField.{filled-passes}
 use Rattle.laws_filled.proofs.FilledRules.{first-silent, long-passes, lists-pass}
 use Rattle.laws_filled.proofs.FilledNames.{names-filled, domains-quiet, domains-said, members-quiet, members-said, known-filled, bound-filled}
-
-page-numbered : (t : List ℕ) (fs : List Field) → pageOf t ≡ fields fs → allOf isNumbered fs ≡ true
-unfolding pageOf
-page-numbered t fs page = fields-numbered beforeFirst 1 (lines t) fs (omega arith) page
 
 module _ (t : List ℕ) (fs : List Field) (page : pageOf t ≡ fields fs) (none : NoLine fs) where
   abbrev limits : Counted fs
@@ -48,13 +42,20 @@ module _ (t : List ℕ) (fs : List Field) (page : pageOf t ≡ fields fs) (none 
   filled-limits =
       let same = filled-policy t fs page in
       rw (
-        passing-silent (λ (f : Field). f .line) (oneAt objectName) mostDomains 0 (filledFields fs) (omega (arith, same-object-domains fs (filledFields fs) same, limits .objectDomains)),
-        passing-silent (λ (f : Field). f .line) (oneAt subjectName) mostDomains 0 (filledFields fs) (omega (arith, same-subject-domains fs (filledFields fs) same, limits .subjectDomains)),
-        passing-silent (λ (f : Field). f .line) (membersAt objectMembers) mostMembers 0 (filledFields fs) (omega (arith, same-objects fs (filledFields fs) same, limits .objects)),
-        passing-silent (λ (f : Field). f .line) (membersAt subjectMembers) mostMembers 0 (filledFields fs) (omega (arith, same-functions fs (filledFields fs) same, limits .functions)),
-        passing-silent (λ (f : Field). f .line) (oneAt principal) mostEntries 0 (filledFields fs) (omega (arith, same-entries fs (filledFields fs) same, limits .entries)),
-        first-silent longPattern (filledFields fs) (filled-passes (λ f. not (longPattern f)) long-passes fs (page-in-order t fs page) (page-right t fs page) (limits .patterns)),
-        passing-silent lineOfEntry descriptorsIn mostDescriptors 0 (entriesOf (filledFields fs)) (omega (arith, same-descriptors fs (filledFields fs) same, limits .descriptors)),
+        passing-silent (λ (f : Field). f .line) (oneAt objectName) mostDomains 0 (filledFields fs)
+            (omega (arith, same-object-domains fs (filledFields fs) same, limits .objectDomains)),
+        passing-silent (λ (f : Field). f .line) (oneAt subjectName) mostDomains 0 (filledFields fs)
+            (omega (arith, same-subject-domains fs (filledFields fs) same, limits .subjectDomains)),
+        passing-silent (λ (f : Field). f .line) (membersAt objectMembers) mostMembers 0 (filledFields fs)
+            (omega (arith, same-objects fs (filledFields fs) same, limits .objects)),
+        passing-silent (λ (f : Field). f .line) (membersAt subjectMembers) mostMembers 0 (filledFields fs)
+            (omega (arith, same-functions fs (filledFields fs) same, limits .functions)),
+        passing-silent (λ (f : Field). f .line) (oneAt principal) mostEntries 0 (filledFields fs)
+            (omega (arith, same-entries fs (filledFields fs) same, limits .entries)),
+        first-silent longPattern (filledFields fs)
+            (filled-passes (λ f. not (longPattern f)) long-passes fs (page-in-order t fs page) (page-right t fs page) (limits .patterns)),
+        passing-silent lineOfEntry descriptorsIn mostDescriptors 0 (entriesOf (filledFields fs))
+            (omega (arith, same-descriptors fs (filledFields fs) same, limits .descriptors)),
       )
       refl
 
@@ -70,7 +71,7 @@ module _ (t : List ℕ) (fs : List Field) (page : pageOf t ≡ fields fs) (none 
   named-once =
       let h = earliest-none _ (none .twice) in
       record {
-        domains = eqb-true _ _ (search (both-left, both-right) depth 10);
+        domains = eqb-true _ _ (search both-left depth 10);
         objects = eqb-true _ _ (search (both-left, both-right) depth 10);
         functions = eqb-true _ _ (search (both-left, both-right) depth 10);
         lists = eqb-true _ _ (search (both-left, both-right) depth 10);
@@ -83,9 +84,12 @@ module _ (t : List ℕ) (fs : List Field) (page : pageOf t ≡ fields fs) (none 
       let n = page-numbered t fs page in
       rw (
         names-filled domainNamed domains-said domains-quiet fs o n (named-once .domains),
-        names-filled (membersNamed objectMembers) (members-said objectMembers) (members-quiet objectMembers (omega arith)) fs o n (named-once .objects),
-        names-filled (membersNamed subjectMembers) (members-said subjectMembers) (members-quiet subjectMembers (omega arith)) fs o n (named-once .functions),
-        first-silent repeatsInList (filledFields fs) (filled-passes (λ f. not (repeatsInList f)) lists-pass fs o (page-right t fs page) (first-none repeatsInList fs n (named-once .lists))),
+        names-filled (membersNamed objectMembers) (members-said objectMembers) (members-quiet objectMembers (omega arith)) fs o n
+            (named-once .objects),
+        names-filled (membersNamed subjectMembers) (members-said subjectMembers) (members-quiet subjectMembers (omega arith)) fs o n
+            (named-once .functions),
+        first-silent repeatsInList (filledFields fs)
+            (filled-passes (λ f. not (repeatsInList f)) lists-pass fs o (page-right t fs page) (first-none repeatsInList fs n (named-once .lists))),
       )
       refl
 
@@ -96,7 +100,13 @@ module _ (t : List ℕ) (fs : List Field) (page : pageOf t ≡ fields fs) (none 
       let o = page-in-order t fs page in
       let r = page-right t fs page in
       let n = page-numbered t fs page in
-      rw (filled-limits, filled-once, known-filled fs o r (all-known fs n none), bound-filled fs o r (all-bound fs n none), filled-twins t fs page (none .twins)) refl
+      rw (
+        filled-limits,
+        filled-once,
+        known-filled fs o r (all-known fs n none),
+        bound-filled fs o r (all-bound fs n none),
+        filled-twins t fs page (none .twins),
+      ) refl
 
 -- ---- the round trip, for every text that the reader accepts and whose filled text is not too long
 
@@ -108,6 +118,11 @@ module _ (t : List ℕ) (fs : List Field) (accepted : fileOf t ≡ fields fs) (s
   pub filled-file : fileOf (filledText fs) ≡ fields (filledFields fs)
   filled-file = filled-ruled t fs page short ∙ filled-rules t fs page (no-line fs fs (accepted-page t fs accepted .1) .0)
 
+  -- answers of it what it answers of the text
+  pub filled-answer : (table : List ℕ) → readAnswer (filledText fs) table ≡ readAnswer t table
+  unfolding readAnswer
+  filled-answer table = rw (filled-file, accepted) refl
+
   -- and leaves the same table
   pub filled-leaves : (table : List ℕ) → readLeaves (filledText fs) table ≡ readLeaves t table
   unfolding readLeaves
@@ -115,34 +130,24 @@ module _ (t : List ℕ) (fs : List Field) (accepted : fileOf t ≡ fields fs) (s
 
 -- ---- the same of what the filler leaves in its output
 
--- a filler that did not refuse: the text was accepted, and the filled text is what it wrote
-record Filled (t out : List ℕ) (size : ℕ) : Type 0 where
-  fs : List Field
-  accepted : fileOf t ≡ fields fs
-  short : length (filledText fs) ≤ textBytes
-  sized : length (filledText fs) ≡ size
+module _ (t out : List ℕ) (size : ℕ) (h : fillAnswer t out ≡ Written size) where
+  -- "Reading the filled text .. gives the same table", and the same answer, whatever table is lent
+  pub same-reading : (table : List ℕ)
+      → (readAnswer (take size (fillLeaves t out)) table ≡ readAnswer t table)
+      × (readLeaves (take size (fillLeaves t out)) table ≡ readLeaves t table)
+  same-reading table =
+      let w = was-filled t out size h in
+      rw (left-text t out size h)
+      (filled-answer t (w .fs) (w .accepted) (w .short) table, filled-leaves t (w .fs) (w .accepted) (w .short) table)
 
-written-in : (room n size : ℕ) → writtenIn room n ≡ Written size → (n ≤ textBytes) × (n ≡ size)
-unfolding writtenIn
-written-in room n size h = go (ltb textBytes n) (ltb room n) refl h
-  where
-    go : (a b : Bool) → ltb textBytes n ≡ a → cond a (Unfilled 31 noLine) (cond b (Unfilled 30 noLine) (Written n)) ≡ Written size → (n ≤ textBytes) × (n ≡ size)
-    go true b e k = absurd (let z : _≡_ {A = ℕ} 0 1 = cc in omega arith)
-    go false true e k = absurd (let z : _≡_ {A = ℕ} 0 1 = cc in omega arith)
-    go false false e k = (ltb-false textBytes n e, cc)
-
-was-filled : (t out : List ℕ) (size : ℕ) → fillAnswer t out ≡ Written size → Filled t out size
-unfolding fillAnswer
-was-filled t out size h = go (fileOf t) refl h
-  where
-    go : (o : Outcome) → fileOf t ≡ o → fillingOf (length out) o ≡ Written size → Filled t out size
-    go (fields fs) e k = record { fs = fs; accepted = e; short = written-in (length out) (length (filledText fs)) size k .0; sized = written-in (length out) (length (filledText fs)) size k .1 }
-    go (fault number line) e k = absurd (let z : _≡_ {A = ℕ} 0 1 = cc in omega arith)
+  -- it is accepted, where the table has room
+  pub filled-accepted : (table : List ℕ) → tableWords ≤ length table → readAnswer (take size (fillLeaves t out)) table ≡ Accepted
+  unfolding readAnswer
+  filled-accepted table room =
+      let w = was-filled t out size h in
+      rw (left-text t out size h, le-ltb (length table) tableWords room, filled-file t (w .fs) (w .accepted) (w .short)) refl
 
 -- "Reading the filled text, where the filler didn't refuse, gives the same table."
-pub round-trip : (t out table : List ℕ) (size : ℕ) → fillAnswer t out ≡ Written size → readLeaves (take size (fillLeaves t out)) table ≡ readLeaves t table
-unfolding fillLeaves
-round-trip t out table size h =
-    let w = was-filled t out size h in
-    let text : take size (filledText (w .fs) ++ drop size out) ≡ filledText (w .fs) = take-at (filledText (w .fs)) (drop size out) size (w .sized) in
-    rw (h, w .accepted, text) (filled-leaves t (w .fs) (w .accepted) (w .short) table)
+pub round-trip : (t out table : List ℕ) (size : ℕ) → fillAnswer t out ≡ Written size
+    → readLeaves (take size (fillLeaves t out)) table ≡ readLeaves t table
+round-trip t out table size h = same-reading t out size h table .1

@@ -47,8 +47,12 @@ module _ (inBlock behind : ℕ → ℕ → Bool) (pass : allRowsPass inBlock beh
   follows q bare f m =
       let r : rowsPass inBlock behind q ≡ true = row-passes q in
       ⊎-elim
-      (λ k. either-left (bare && inBlock q (f .place)) _ (both-true bare (inBlock q (f .place)) (both-left bare _ k) (among-all (inBlock q) (f .place) (rowAt q .block) (both-right bare _ k) (both-left (allOf (inBlock q) (rowAt q .block)) _ r))))
-      (λ k. either-right (bare && inBlock q (f .place)) _ (among-all (behind q) (f .place) (rowAt q .next) (both-right (not (needsBlock q bare)) _ k) (both-right (allOf (inBlock q) (rowAt q .block)) _ r)))
+      (λ k. either-left (bare && inBlock q (f .place)) _
+      (both-true bare (inBlock q (f .place)) (both-left bare _ k)
+      (among-all (inBlock q) (f .place) (rowAt q .block) (both-right bare _ k) (both-left (allOf (inBlock q) (rowAt q .block)) _ r))))
+      (λ k. either-right (bare && inBlock q (f .place)) _
+      (among-all (behind q) (f .place) (rowAt q .next) (both-right (not (needsBlock q bare)) _ k)
+      (both-right (allOf (inBlock q) (rowAt q .block)) _ r)))
       (either-of (bare && anyOf (eqb (f .place)) (rowAt q .block)) _ m)
 
 -- ---- behind a `principal` no field of a map comes
@@ -83,7 +87,8 @@ none-late p l q bare (f ∷ fs) h o =
     none-more p f fs (λ (e : f .place ≡ p). omega arith) (none-late p l (f .place) (isEmpty (f .value)) fs k (both-right (mayFollow q bare f) _ o))
 
 -- the fields of a map stand before the first `principal`
-pub maps-first : (p : ℕ) → p < 8 → (q : ℕ) (bare : Bool) (fs : List Field) → inListingOrder q bare fs ≡ true → fieldsAt p (upToNext principal fs) ≡ fieldsAt p fs
+pub maps-first : (p : ℕ) → p < 8 → (q : ℕ) (bare : Bool) (fs : List Field) → inListingOrder q bare fs ≡ true
+    → fieldsAt p (upToNext principal fs) ≡ fieldsAt p fs
 unfolding fieldsAt upToNext inListingOrder
 maps-first p l q bare [] o = refl
 maps-first p l q bare (f ∷ fs) o = go (isAt principal f) refl (maps-first p l (f .place) (isEmpty (f .value)) fs rest)
@@ -95,7 +100,8 @@ maps-first p l q bare (f ∷ fs) o = go (isAt principal f) refl (maps-first p l 
         → fieldsAt p (cond t [] (f ∷ upToNext principal fs)) ≡ cond (isAt p f) (f ∷ fieldsAt p fs) (fieldsAt p fs)
     go true e ih =
         let s : f .place ≡ principal = eqb-true (f .place) principal e in
-        rw (ne-eqb (f .place) p (λ (z : f .place ≡ p). omega arith)) (sym (fields-none p fs (none-late p l (f .place) (isEmpty (f .value)) fs (omega arith) rest)))
+        rw (ne-eqb (f .place) p (λ (z : f .place ≡ p). omega arith))
+        (sym (fields-none p fs (none-late p l (f .place) (isEmpty (f .value)) fs (omega arith) rest)))
     go false e ih = rw ih refl
 
 -- ---- above the items of `can_read` or `can_write` stands that field, bare
@@ -146,7 +152,8 @@ gone-test false false false false false h y k = absurd (false≢true h)
 -- one field more in front, which does not stand inside an item
 not-inside-place : (a p : ℕ) → inside a p ≡ false → p ≡ a + 1 → ⊥
 unfolding inside
-not-inside-place a p h e = false≢true (sym h ∙ both-true (leb (a + 1) p) (leb p (a + 5)) (le-leb (a + 1) p (omega arith)) (le-leb p (a + 5) (omega arith)))
+not-inside-place a p h e =
+    false≢true (sym h ∙ both-true (leb (a + 1) p) (leb p (a + 5)) (le-leb (a + 1) p (omega arith)) (le-leb p (a + 5) (omega arith)))
 
 value-behind : (a : ℕ) (f : Field) (fs : List Field) → isAt a f ≡ false → valueAt a (f ∷ fs) ≡ valueAt a fs
 unfolding valueAt
@@ -156,16 +163,20 @@ value-none : (a : ℕ) (f : Field) (fs : List Field) → isAt a f ≡ true → i
 unfolding valueAt meant
 value-none a f fs e z = rw (e, z) (same-refl (bytes "[]"))
 
-one-more : (a : ℕ) (f : Field) (fs : List Field) → inside a (f .place) ≡ false → (open-items a (f .place) (isEmpty (f .value)) ≡ false → (noneAt (objectsIn a) fs || is "[]" (valueAt a fs)) ≡ true)
-    → (gone a (f .place) (isEmpty (f .value)) ≡ true → noneAt (objectsIn a) fs ≡ true) → (noneAt (objectsIn a) (f ∷ fs) || is "[]" (valueAt a (f ∷ fs))) ≡ true
+one-more : (a : ℕ) (f : Field) (fs : List Field) → inside a (f .place) ≡ false
+    → (open-items a (f .place) (isEmpty (f .value)) ≡ false → (noneAt (objectsIn a) fs || is "[]" (valueAt a fs)) ≡ true)
+    → (gone a (f .place) (isEmpty (f .value)) ≡ true → noneAt (objectsIn a) fs ≡ true)
+    → (noneAt (objectsIn a) (f ∷ fs) || is "[]" (valueAt a (f ∷ fs))) ≡ true
 unfolding open-items gone
 one-more a f fs i ih never = go (isAt a f) (isEmpty (f .value)) refl refl ih never
   where
     apart : f .place ≡ a + 1 → ⊥
     apart z = not-inside-place a (f .place) i z
 
-    go : (t u : Bool) → isAt a f ≡ t → isEmpty (f .value) ≡ u → (((u && t) || inside a (f .place)) ≡ false → (noneAt (objectsIn a) fs || is "[]" (valueAt a fs)) ≡ true)
-        → (((not u && t) || ltb (a + 5) (f .place)) ≡ true → noneAt (objectsIn a) fs ≡ true) → (noneAt (objectsIn a) (f ∷ fs) || is "[]" (valueAt a (f ∷ fs))) ≡ true
+    go : (t u : Bool) → isAt a f ≡ t → isEmpty (f .value) ≡ u
+        → (((u && t) || inside a (f .place)) ≡ false → (noneAt (objectsIn a) fs || is "[]" (valueAt a fs)) ≡ true)
+        → (((not u && t) || ltb (a + 5) (f .place)) ≡ true → noneAt (objectsIn a) fs ≡ true)
+        → (noneAt (objectsIn a) (f ∷ fs) || is "[]" (valueAt a (f ∷ fs))) ≡ true
     go true true e z k n = either-right (noneAt (objectsIn a) (f ∷ fs)) _ (value-none a f fs e z)
     go true false e z k n = either-left (noneAt (objectsIn a) (f ∷ fs)) _ (none-more (a + 1) f fs apart (n refl))
     go false u e z k n = ⊎-elim
@@ -178,11 +189,14 @@ shut-first : (a q : ℕ) (bare : Bool) → q < a → open-items a q bare ≡ fal
 unfolding open-items inside
 shut-first a q bare h = rw (ne-eqb q a (λ (z : q ≡ a). omega arith), both-false bare false refl, lt-leb (a + 1) q (omega arith)) refl
 
-above : (a : ℕ) (f : Field) (fs : List Field) → (f .place ≡ a → ⊥) → (f .place ≡ a + 1 → ⊥) → (noneAt (objectsIn a) fs || is "[]" (valueAt a fs)) ≡ true → bareAbove a (f ∷ fs) ≡ true
+above : (a : ℕ) (f : Field) (fs : List Field) → (f .place ≡ a → ⊥) → (f .place ≡ a + 1 → ⊥)
+    → (noneAt (objectsIn a) fs || is "[]" (valueAt a fs)) ≡ true → bareAbove a (f ∷ fs) ≡ true
 unfolding bareAbove itemsOf
 above a f fs n m h = ⊎-elim
-    (λ (k : noneAt (objectsIn a) fs ≡ true). either-left (isEmpty (stretchesFrom (objectsIn a) (f ∷ fs))) _ (rw (no-stretches (objectsIn a) (f ∷ fs) (none-more (a + 1) f fs m k)) refl))
-    (λ (k : is "[]" (valueAt a fs) ≡ true). either-right (isEmpty (stretchesFrom (objectsIn a) (f ∷ fs))) _ (rw (value-behind a f fs (ne-eqb (f .place) a n)) k))
+    (λ (k : noneAt (objectsIn a) fs ≡ true). either-left (isEmpty (stretchesFrom (objectsIn a) (f ∷ fs))) _
+    (rw (no-stretches (objectsIn a) (f ∷ fs) (none-more (a + 1) f fs m k)) refl))
+    (λ (k : is "[]" (valueAt a fs) ≡ true). either-right (isEmpty (stretchesFrom (objectsIn a) (f ∷ fs))) _
+    (rw (value-behind a f fs (ne-eqb (f .place) a n)) k))
     (either-of (noneAt (objectsIn a) fs) _ h)
 
 module _ (a : ℕ) (high : 8 < a) (shut : allRowsPass (opens a) (stays-open a) ≡ true) (over : allRowsPass (beyond a) (closes a) ≡ true) where
@@ -190,21 +204,26 @@ module _ (a : ℕ) (high : 8 < a) (shut : allRowsPass (opens a) (stays-open a) �
   unfolding open-items opens stays-open
   not-inside q bare f m o = shut-test bare (eqb q a) (inside a q) (inside a (f .place)) o (follows (opens a) (stays-open a) shut q bare f m)
 
-  still-gone : (q : ℕ) (bare : Bool) (f : Field) → mayFollow q bare f ≡ true → gone a q bare ≡ true → isAt principal f ≡ false → ltb (a + 5) (f .place) ≡ true
+  still-gone : (q : ℕ) (bare : Bool) (f : Field) → mayFollow q bare f ≡ true → gone a q bare ≡ true → isAt principal f ≡ false
+      → ltb (a + 5) (f .place) ≡ true
   unfolding gone beyond closes
-  still-gone q bare f m g e = gone-test bare (eqb q a) (ltb (a + 5) q) (eqb (f .place) 8) (ltb (a + 5) (f .place)) g e (follows (beyond a) (closes a) over q bare f m)
+  still-gone q bare f m g e =
+      gone-test bare (eqb q a) (ltb (a + 5) q) (eqb (f .place) 8) (ltb (a + 5) (f .place)) g e (follows (beyond a) (closes a) over q bare f m)
 
-  none-after : (q : ℕ) (bare : Bool) (fs : List Field) → inListingOrder q bare fs ≡ true → gone a q bare ≡ true → noneAt (objectsIn a) (upToNext principal fs) ≡ true
+  none-after : (q : ℕ) (bare : Bool) (fs : List Field) → inListingOrder q bare fs ≡ true → gone a q bare ≡ true
+      → noneAt (objectsIn a) (upToNext principal fs) ≡ true
   unfolding inListingOrder upToNext gone
   none-after q bare [] o g = none-here (a + 1)
   none-after q bare (f ∷ fs) o g = go (isAt principal f) refl (none-after (f .place) (isEmpty (f .value)) fs (both-right (mayFollow q bare f) _ o))
     where
-      go : (t : Bool) → isAt principal f ≡ t → (((not (isEmpty (f .value)) && eqb (f .place) a) || ltb (a + 5) (f .place)) ≡ true → noneAt (objectsIn a) (upToNext principal fs) ≡ true)
+      go : (t : Bool) → isAt principal f ≡ t
+          → (((not (isEmpty (f .value)) && eqb (f .place) a) || ltb (a + 5) (f .place)) ≡ true → noneAt (objectsIn a) (upToNext principal fs) ≡ true)
           → noneAt (objectsIn a) (cond t [] (f ∷ upToNext principal fs)) ≡ true
       go true e ih = none-here (a + 1)
       go false e ih =
           let s : ltb (a + 5) (f .place) ≡ true = still-gone q bare f (both-left (mayFollow q bare f) _ o) g e in
-          none-more (a + 1) f (upToNext principal fs) (λ (z : f .place ≡ a + 1). omega (arith, ltb-true (a + 5) (f .place) s)) (ih (either-right (not (isEmpty (f .value)) && eqb (f .place) a) (ltb (a + 5) (f .place)) s))
+          none-more (a + 1) f (upToNext principal fs) (λ (z : f .place ≡ a + 1). omega (arith, ltb-true (a + 5) (f .place) s))
+          (ih (either-right (not (isEmpty (f .value)) && eqb (f .place) a) (ltb (a + 5) (f .place)) s))
 
   bare-or-none : (q : ℕ) (bare : Bool) (fs : List Field) → inListingOrder q bare fs ≡ true → open-items a q bare ≡ false
       → (noneAt (objectsIn a) (upToNext principal fs) || is "[]" (valueAt a (upToNext principal fs))) ≡ true
@@ -216,13 +235,19 @@ module _ (a : ℕ) (high : 8 < a) (shut : allRowsPass (opens a) (stays-open a) �
       rest = both-right (mayFollow q bare f) _ o
 
       go : (t : Bool) → isAt principal f ≡ t
-          → (open-items a (f .place) (isEmpty (f .value)) ≡ false → (noneAt (objectsIn a) (upToNext principal fs) || is "[]" (valueAt a (upToNext principal fs))) ≡ true)
+          → (open-items a (f .place) (isEmpty (f .value)) ≡ false
+          → (noneAt (objectsIn a) (upToNext principal fs) || is "[]" (valueAt a (upToNext principal fs))) ≡ true)
           → (noneAt (objectsIn a) (cond t [] (f ∷ upToNext principal fs)) || is "[]" (valueAt a (cond t [] (f ∷ upToNext principal fs)))) ≡ true
       go true e ih = either-left (noneAt (objectsIn a) []) _ (none-here (a + 1))
-      go false e ih = one-more a f (upToNext principal fs) (not-inside q bare f (both-left (mayFollow q bare f) _ o) c) ih (λ (g : gone a (f .place) (isEmpty (f .value)) ≡ true). none-after (f .place) (isEmpty (f .value)) fs rest g)
+      go false e ih =
+          one-more a f (upToNext principal fs) (not-inside q bare f (both-left (mayFollow q bare f) _ o) c) ih
+          (λ (g : gone a (f .place) (isEmpty (f .value)) ≡ true). none-after (f .place) (isEmpty (f .value)) fs rest g)
 
-  entry-bare : (f : Field) (fs : List Field) → f .place ≡ principal → inListingOrder (f .place) (isEmpty (f .value)) fs ≡ true → bareAbove a (f ∷ upToNext principal fs) ≡ true
-  entry-bare f fs e o = above a f (upToNext principal fs) (λ (z : f .place ≡ a). omega arith) (λ (z : f .place ≡ a + 1). omega arith) (bare-or-none (f .place) (isEmpty (f .value)) fs o (shut-first a (f .place) (isEmpty (f .value)) (omega arith)))
+  entry-bare : (f : Field) (fs : List Field) → f .place ≡ principal → inListingOrder (f .place) (isEmpty (f .value)) fs ≡ true
+      → bareAbove a (f ∷ upToNext principal fs) ≡ true
+  entry-bare f fs e o =
+      above a f (upToNext principal fs) (λ (z : f .place ≡ a). omega arith) (λ (z : f .place ≡ a + 1). omega arith)
+      (bare-or-none (f .place) (isEmpty (f .value)) fs o (shut-first a (f .place) (isEmpty (f .value)) (omega arith)))
 
   entries-bare : (q : ℕ) (bare : Bool) (fs : List Field) → inListingOrder q bare fs ≡ true → allOf (bareAbove a) (stretchesFrom principal fs) ≡ true
   unfolding inListingOrder allOf stretchesFrom

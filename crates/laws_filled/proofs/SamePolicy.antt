@@ -7,14 +7,16 @@ use native.Mathlib.Omega.{arith}
 use lib.ListN.{length}
 use borrow.Author.Tests.{eqb-true, eq-eqb, ne-eqb}
 use Rattle.paper.specs.Common.{bytes, isEmpty, is}
-use Rattle.paper.specs.Listing.{principal, subjectOfEntry, executionContext, canCall, canReturn, canRead, canWrite, callContextIn, uidIn, gidIn, objectsIn, objectContextIn}
+use Rattle.paper.specs.Listing.{principal, subjectOfEntry, executionContext, canCall, canReturn, canRead, canWrite, callContextIn, uidIn, gidIn}
+use Rattle.paper.specs.Listing.{objectsIn, objectContextIn}
 use Rattle.paper.specs.Page.{Field}
 use Rattle.paper.specs.Entries.{meant, valueAt, upToNext, stretchesFrom, entriesOf, itemsOf}
 use Rattle.paper.specs.Policy.{contextOf, descriptorOf, accessOf, entryOf}
 use Rattle.laws.proofs.Tests.{same-equal}
 use Rattle.laws_filled.specs.Fields.{unwritten, valueField, contextFields, itemFields, accessFields, entryRest, entryFields, written}
 use Rattle.laws_filled.proofs.Text.{value-some}
-use Rattle.laws_filled.proofs.Past.{noneAt, next-past, stretches-past, value-past, none-before, context-none, access-none, rest-none, none-bare, none-value, none-both, none-here, value-here, value-skips, bare-skips}
+use Rattle.laws_filled.proofs.Past.{noneAt, next-past, stretches-past, value-past, none-before, context-none, access-none, rest-none}
+use Rattle.laws_filled.proofs.Past.{none-bare, none-value, none-both, none-here, value-here, value-skips, bare-skips}
 
 -- where there are items, the field above them is bare
 unfoldable pub bareAbove : ℕ → List Field → Bool
@@ -61,7 +63,8 @@ no-fields : (p : ℕ) → stretchesFrom p [] ≡ []
 unfolding stretchesFrom
 no-fields p = refl
 
-begins-one : (p : ℕ) (f : Field) (xs ys : List Field) → f .place ≡ p → noneAt p xs ≡ true → stretchesFrom p (f ∷ (xs ++ ys)) ≡ (f ∷ (xs ++ upToNext p ys)) ∷ stretchesFrom p ys
+begins-one : (p : ℕ) (f : Field) (xs ys : List Field) → f .place ≡ p → noneAt p xs ≡ true
+    → stretchesFrom p (f ∷ (xs ++ ys)) ≡ (f ∷ (xs ++ upToNext p ys)) ∷ stretchesFrom p ys
 unfolding stretchesFrom
 begins-one p f xs ys e n = rw (eq-eqb (f .place) p e, next-past p xs ys n, stretches-past p xs ys n) refl
 
@@ -72,9 +75,12 @@ passes-one p f fs n = rw (ne-eqb (f .place) p n) refl
 pub no-stretches : (p : ℕ) (fs : List Field) → noneAt p fs ≡ true → stretchesFrom p fs ≡ []
 no-stretches p fs n = ap (stretchesFrom p) (sym (append-nil fs)) ∙ stretches-past p fs [] n ∙ no-fields p
 
-first-item : (a : ℕ) (i t : List Field) → stretchesFrom (objectsIn a) (itemFields a i ++ t) ≡ (itemFields a i ++ upToNext (objectsIn a) t) ∷ stretchesFrom (objectsIn a) t
+first-item : (a : ℕ) (i t : List Field)
+    → stretchesFrom (objectsIn a) (itemFields a i ++ t) ≡ (itemFields a i ++ upToNext (objectsIn a) t) ∷ stretchesFrom (objectsIn a) t
 unfolding itemFields valueField unwritten
-first-item a i t = begins-one (a + 1) (unwritten (a + 1) (valueAt (a + 1) i)) (contextFields (a + 2) i) t refl (context-none (a + 1) (a + 2) i (λ q l u e. omega arith))
+first-item a i t =
+    begins-one (a + 1) (unwritten (a + 1) (valueAt (a + 1) i)) (contextFields (a + 2) i) t refl
+    (context-none (a + 1) (a + 2) i (λ q l u e. omega arith))
 
 passes-value : (p q : ℕ) (e fs : List Field) → (q ≡ p → ⊥) → stretchesFrom p (valueField q e ∷ fs) ≡ stretchesFrom p fs
 unfolding valueField unwritten
@@ -98,13 +104,20 @@ bare-value p fs = rw (eq-eqb p p refl) refl
 
 -- whatever is asked of an item that its own fields answer
 module _ {B : Type 0} (asked : List Field → B) (a : ℕ) (keeps : (i t : List Field) → asked (itemFields a i ++ t) ≡ asked i) where
-  items-again : (is : List (List Field)) (t : List Field) → noneAt (objectsIn a) t ≡ true → map asked (stretchesFrom (objectsIn a) (flatMap (itemFields a) is ++ t)) ≡ map asked is
+  items-again : (is : List (List Field)) (t : List Field) → noneAt (objectsIn a) t ≡ true
+      → map asked (stretchesFrom (objectsIn a) (flatMap (itemFields a) is ++ t)) ≡ map asked is
   unfolding flatMap
   items-again [] t n = ap (map asked) (no-stretches (objectsIn a) t n)
   items-again (i ∷ is) t n =
-      rw (append-assoc (itemFields a i) (flatMap (itemFields a) is) t, first-item a i (flatMap (itemFields a) is ++ t), keeps i (upToNext (objectsIn a) (flatMap (itemFields a) is ++ t)), items-again is t n) refl
+      rw (
+        append-assoc (itemFields a i) (flatMap (itemFields a) is) t,
+        first-item a i (flatMap (itemFields a) is ++ t),
+        keeps i (upToNext (objectsIn a) (flatMap (itemFields a) is ++ t)),
+        items-again is t n,
+      ) refl
 
-  access-items : (e t : List Field) → noneAt (objectsIn a) t ≡ true → map asked (stretchesFrom (objectsIn a) (accessFields a e ++ t)) ≡ map asked (itemsOf a e)
+  access-items : (e t : List Field) → noneAt (objectsIn a) t ≡ true
+      → map asked (stretchesFrom (objectsIn a) (accessFields a e ++ t)) ≡ map asked (itemsOf a e)
   unfolding accessFields
   access-items e t n = go (isEmpty (itemsOf a e)) refl
     where
@@ -112,7 +125,8 @@ module _ {B : Type 0} (asked : List Field → B) (a : ℕ) (keeps : (i t : List 
       past s = omega arith
 
       go : (s : Bool) → isEmpty (itemsOf a e) ≡ s
-          → map asked (stretchesFrom (objectsIn a) (cond s (valueField a e ∷ []) (unwritten a [] ∷ flatMap (itemFields a) (itemsOf a e)) ++ t)) ≡ map asked (itemsOf a e)
+          → map asked (stretchesFrom (objectsIn a) (cond s (valueField a e ∷ []) (unwritten a [] ∷ flatMap (itemFields a) (itemsOf a e)) ++ t))
+          ≡ map asked (itemsOf a e)
       go true s = ap (map asked) (passes-value (a + 1) a e t past ∙ no-stretches (a + 1) t n ∙ sym (empty-list (itemsOf a e) s))
       go false s = ap (map asked) (passes-bare (a + 1) a (flatMap (itemFields a) (itemsOf a e) ++ t) past) ∙ items-again (itemsOf a e) t n
 
@@ -121,7 +135,8 @@ access-value : (a : ℕ) (e t : List Field) → bareAbove a e ≡ true → value
 unfolding accessFields bareAbove
 access-value a e t b = go (isEmpty (itemsOf a e)) b
   where
-    go : (s : Bool) → (s || is "[]" (valueAt a e)) ≡ true → valueAt a (cond s (valueField a e ∷ []) (unwritten a [] ∷ flatMap (itemFields a) (itemsOf a e)) ++ t) ≡ valueAt a e
+    go : (s : Bool) → (s || is "[]" (valueAt a e)) ≡ true
+        → valueAt a (cond s (valueField a e ∷ []) (unwritten a [] ∷ flatMap (itemFields a) (itemsOf a e)) ++ t) ≡ valueAt a e
     go true h = value-here a e t
     go false h = bare-value a (flatMap (itemFields a) (itemsOf a e) ++ t) ∙ same-equal (bytes "[]") (valueAt a e) h
 
@@ -129,7 +144,8 @@ access-value a e t b = go (isEmpty (itemsOf a e)) b
 
 -- what stands before `can_read`
 unfoldable entryFront : List Field → List Field
-entryFront e = unwritten principal [] ∷ valueField subjectOfEntry e ∷ (contextFields executionContext e ++ (valueField canCall e ∷ valueField canReturn e ∷ []))
+entryFront e =
+    unwritten principal [] ∷ valueField subjectOfEntry e ∷ (contextFields executionContext e ++ (valueField canCall e ∷ valueField canReturn e ∷ []))
 
 entry-parts : (e : List Field) → entryFields e ≡ entryFront e ++ (accessFields canRead e ++ accessFields canWrite e)
 unfolding entryFields entryRest entryFront contextFields
@@ -169,15 +185,18 @@ pub record AccessAgain {B : Type 0} (asked : List Field → B) (e : List Field) 
   pub items : map asked (itemsOf a (entryFields e)) ≡ map asked (itemsOf a e)
 
 module _ {B : Type 0} (e : List Field) where
-  pub reads-again : (asked : List Field → B) → ((i t : List Field) → asked (itemFields canRead i ++ t) ≡ asked i) → bareAbove canRead e ≡ true → AccessAgain asked e canRead
+  pub reads-again : (asked : List Field → B) → ((i t : List Field) → asked (itemFields canRead i ++ t) ≡ asked i) → bareAbove canRead e ≡ true
+      → AccessAgain asked e canRead
   unfolding itemsOf
   reads-again asked keeps b = record {
     value = rw (entry-parts e) (value-past 16 (entryFront e) _ (front-none 16 e (omega arith)) ∙ access-value canRead e (accessFields canWrite e) b);
     items = rw (entry-parts e)
-        (ap (map asked) (stretches-past 17 (entryFront e) _ (front-none 17 e (omega arith))) ∙ access-items asked canRead keeps e (accessFields canWrite e) (access-none 17 canWrite e (λ q l u s. omega arith)));
+        (ap (map asked) (stretches-past 17 (entryFront e) _ (front-none 17 e (omega arith)))
+        ∙ access-items asked canRead keeps e (accessFields canWrite e) (access-none 17 canWrite e (λ q l u s. omega arith)));
   }
 
-  pub writes-again : (asked : List Field → B) → ((i t : List Field) → asked (itemFields canWrite i ++ t) ≡ asked i) → bareAbove canWrite e ≡ true → AccessAgain asked e canWrite
+  pub writes-again : (asked : List Field → B) → ((i t : List Field) → asked (itemFields canWrite i ++ t) ≡ asked i) → bareAbove canWrite e ≡ true
+      → AccessAgain asked e canWrite
   unfolding itemsOf
   writes-again asked keeps b = record {
     value = rw (entry-parts e)
@@ -203,7 +222,9 @@ module _ (file e : List Field) where
   unfolding entryOf contextOf
   entry-same r w =
       let v = front-values e in
-      rw (v .subject, v .call-context, v .uid, v .gid, v .call, v .return, access-same canRead (reads-again e (descriptorOf file canRead) (λ i t. item-descriptor canRead i t file) r), access-same canWrite (writes-again e (descriptorOf file canWrite) (λ i t. item-descriptor canWrite i t file) w)) refl
+      let reads = access-same canRead (reads-again e (descriptorOf file canRead) (λ i t. item-descriptor canRead i t file) r) in
+      let writes = access-same canWrite (writes-again e (descriptorOf file canWrite) (λ i t. item-descriptor canWrite i t file) w) in
+      rw (v .subject, v .call-context, v .uid, v .gid, v .call, v .return, reads, writes) refl
 
 -- ---- the entries of the file
 
@@ -216,9 +237,12 @@ entries-again : (es : List (List Field)) → stretchesFrom principal (flatMap en
 unfolding flatMap entryFields
 entries-again [] = no-fields principal
 entries-again (e ∷ es) =
-    begins-one principal (unwritten principal []) (entryRest e) (flatMap entryFields es) (bare-place principal) (rest-none principal e (λ q l s. omega arith))
+    begins-one principal (unwritten principal []) (entryRest e) (flatMap entryFields es) (bare-place principal)
+    (rest-none principal e (λ q l s. omega arith))
     ∙ rw (next-none es, append-nil (entryRest e), entries-again es) refl
 
 pub entries-written : (fs : List Field) → entriesOf (written fs) ≡ map entryFields (entriesOf fs)
 unfolding entriesOf written
-entries-written fs = stretches-past principal (upToNext principal fs) (flatMap entryFields (stretchesFrom principal fs)) (none-before principal fs) ∙ entries-again (stretchesFrom principal fs)
+entries-written fs =
+    stretches-past principal (upToNext principal fs) (flatMap entryFields (stretchesFrom principal fs)) (none-before principal fs)
+    ∙ entries-again (stretchesFrom principal fs)

@@ -5,21 +5,28 @@ use mathlib.Core.Bool.{Bool, true, false, cond}
 use Prim.Native.Nat.{ℕ, _+_}
 use Rattle.paper.specs.Common.{is}
 use Rattle.paper.specs.Lists.{elements}
-use Rattle.paper.specs.Listing.{objectName, objectMembers, subjectName, subjectMembers, subjectOfEntry, executionContext, canCall, canReturn, canRead, canWrite, callContextIn, uidIn, gidIn, objectsIn, objectContextIn}
+use Rattle.paper.specs.Listing.{objectName, objectMembers, subjectName, subjectMembers, subjectOfEntry, executionContext, canCall, canReturn, canRead}
+use Rattle.paper.specs.Listing.{canWrite, callContextIn, uidIn, gidIn, objectsIn, objectContextIn}
 use Rattle.paper.specs.Page.{Field}
 use Rattle.paper.specs.Entries.{isAt, meant, valueAt, fieldsAt, upToNext, stretchesFrom, entriesOf, itemsOf}
 use Rattle.paper.specs.Rules.{domainsAt, identifiersAt}
 use Rattle.paper.specs.Policy.{Descriptor, contextOf, descriptorOf, accessOf, entryOf, memberDomains, policyOf}
-use Rattle.laws_filled.specs.Fields.{unwritten, numbered}
+use Rattle.laws_filled.specs.Fields.{unwritten, numbered, written, filledFields}
 
 -- a field without its line and start
 unfoldable pub says : Field → Field
 says f = unwritten (f .place) (f .value)
 
-pub numbered-says : (n at : ℕ) (fs : List Field) → map says (numbered n at fs) ≡ map says fs
+numbered-says : (n at : ℕ) (fs : List Field) → map says (numbered n at fs) ≡ map says fs
 unfolding numbered says unwritten
 numbered-says n at [] = refl
 numbered-says n at (f ∷ fs) = rw (numbered-says (n + 1) _ fs) refl
+
+-- what does not look at lines and starts is the same of the fields of the filled text and of those that are written
+pub filled-same : {B : Type 0} (asked : List Field → B) → ((fs : List Field) → asked (map says fs) ≡ asked fs)
+    → (fs : List Field) → asked (filledFields fs) ≡ asked (written fs)
+unfolding filledFields
+filled-same asked said fs = sym (said (numbered _ _ (written fs))) ∙ ap asked (numbered-says _ _ (written fs)) ∙ said (written fs)
 
 pub map-same : {A B C : Type 0} (h : A → B) (g : B → C) (f : A → C) → ((x : A) → g (h x) ≡ f x) → (xs : List A) → map g (map h xs) ≡ map f xs
 map-same h g f e [] = refl
@@ -38,7 +45,8 @@ module _ (p : ℕ) where
   fields-say [] = refl
   fields-say (f ∷ fs) = go (isAt p f) (fields-say fs)
     where
-      go : (t : Bool) → fieldsAt p (map says fs) ≡ map says (fieldsAt p fs) → cond t (says f ∷ fieldsAt p (map says fs)) (fieldsAt p (map says fs)) ≡ map says (cond t (f ∷ fieldsAt p fs) (fieldsAt p fs))
+      go : (t : Bool) → fieldsAt p (map says fs) ≡ map says (fieldsAt p fs)
+          → cond t (says f ∷ fieldsAt p (map says fs)) (fieldsAt p (map says fs)) ≡ map says (cond t (f ∷ fieldsAt p fs) (fieldsAt p fs))
       go true e = rw e refl
       go false e = e
 
@@ -47,7 +55,8 @@ module _ (p : ℕ) where
   next-says [] = refl
   next-says (f ∷ fs) = go (isAt p f) (next-says fs)
     where
-      go : (t : Bool) → upToNext p (map says fs) ≡ map says (upToNext p fs) → cond t [] (says f ∷ upToNext p (map says fs)) ≡ map says (cond t [] (f ∷ upToNext p fs))
+      go : (t : Bool) → upToNext p (map says fs) ≡ map says (upToNext p fs)
+          → cond t [] (says f ∷ upToNext p (map says fs)) ≡ map says (cond t [] (f ∷ upToNext p fs))
       go true e = refl
       go false e = rw e refl
 
@@ -57,7 +66,8 @@ module _ (p : ℕ) where
   stretches-say (f ∷ fs) = go (isAt p f) (next-says fs) (stretches-say fs)
     where
       go : (t : Bool) → upToNext p (map says fs) ≡ map says (upToNext p fs) → stretchesFrom p (map says fs) ≡ map (map says) (stretchesFrom p fs)
-          → cond t ((says f ∷ upToNext p (map says fs)) ∷ stretchesFrom p (map says fs)) (stretchesFrom p (map says fs)) ≡ map (map says) (cond t ((f ∷ upToNext p fs) ∷ stretchesFrom p fs) (stretchesFrom p fs))
+          → cond t ((says f ∷ upToNext p (map says fs)) ∷ stretchesFrom p (map says fs)) (stretchesFrom p (map says fs))
+          ≡ map (map says) (cond t ((f ∷ upToNext p fs) ∷ stretchesFrom p fs) (stretchesFrom p fs))
       go true d e = rw (d, e) refl
       go false d e = e
 
@@ -92,13 +102,23 @@ module _ (file : List Field) where
   descriptor-says : (a : ℕ) (item : List Field) → descriptorOf (map says file) a (map says item) ≡ descriptorOf file a item
   unfolding descriptorOf
   descriptor-says a item =
-      rw (identifiers-say subjectMembers file, domains-say objectName file, context-says (identifiersAt subjectMembers file) (objectContextIn a) item, value-says (objectsIn a) item) refl
+      rw (
+        identifiers-say subjectMembers file,
+        domains-say objectName file,
+        context-says (identifiersAt subjectMembers file) (objectContextIn a) item,
+        value-says (objectsIn a) item,
+      ) refl
 
   access-says : (a : ℕ) (e : List Field) → accessOf (map says file) a (map says e) ≡ accessOf file a e
   unfolding accessOf itemsOf
   access-says a e =
-      rw (value-says a e, stretches-say (objectsIn a) e, map-same (map says) (descriptorOf (map says file) a) (descriptorOf file a) (descriptor-says a) (stretchesFrom (objectsIn a) e))
-      (ap (λ (d : Descriptor). cond (is "all" (valueAt a e)) (d ∷ []) (map (descriptorOf file a) (stretchesFrom (objectsIn a) e))) (descriptor-says a []))
+      rw (
+        value-says a e,
+        stretches-say (objectsIn a) e,
+        map-same (map says) (descriptorOf (map says file) a) (descriptorOf file a) (descriptor-says a) (stretchesFrom (objectsIn a) e),
+      )
+      (ap (λ (d : Descriptor). cond (is "all" (valueAt a e)) (d ∷ []) (map (descriptorOf file a) (stretchesFrom (objectsIn a) e)))
+      (descriptor-says a []))
 
   entry-says : (e : List Field) → entryOf (map says file) (map says e) ≡ entryOf file e
   unfolding entryOf
@@ -114,7 +134,7 @@ module _ (file : List Field) where
         access-says canWrite e,
       ) refl
 
-  policy-says : policyOf (map says file) ≡ policyOf file
+  pub policy-says : policyOf (map says file) ≡ policyOf file
   unfolding policyOf entriesOf
   policy-says =
       rw (
@@ -125,7 +145,3 @@ module _ (file : List Field) where
         stretches-say 8 file,
         map-same (map says) (entryOf (map says file)) (entryOf file) entry-says (stretchesFrom 8 file),
       ) refl
-
--- the numbers of the lines do not count
-pub numbered-policy : (n at : ℕ) (fs : List Field) → policyOf (numbered n at fs) ≡ policyOf fs
-numbered-policy n at fs = sym (policy-says (numbered n at fs)) ∙ ap policyOf (numbered-says n at fs) ∙ policy-says fs

@@ -5,7 +5,8 @@ use mathlib.Core.Bool.{Bool, true, false, cond}
 use Prim.Native.Nat.{ℕ}
 use lib.Dec.{eqb}
 use Rattle.paper.specs.Common.{bytes, isEmpty, anyOf}
-use Rattle.paper.specs.Listing.{principal, subjectOfEntry, executionContext, canCall, canReturn, canRead, canWrite, callContextIn, uidIn, gidIn, objectsIn, objectContextIn}
+use Rattle.paper.specs.Listing.{principal, subjectOfEntry, executionContext, canCall, canReturn, canRead, canWrite, callContextIn, uidIn, gidIn}
+use Rattle.paper.specs.Listing.{objectsIn, objectContextIn}
 use Rattle.paper.specs.Page.{Field}
 use Rattle.paper.specs.Entries.{isAt, callContexts, defaultAt, meant, valueAt, upToNext, entriesOf, itemsOf}
 use Rattle.paper.specs.Filled.{writtenLine, bareLine, valueLine, contextText, itemText, accessText, entryText, filledText}
@@ -70,7 +71,8 @@ item-text : (access : ℕ) (item : List Field) → flatMap writtenLine (itemFiel
 unfolding itemFields itemText
 item-text access item = rw (value-more (objectsIn access) item _, context-text (objectContextIn access) item) refl
 
-access-many : (access : ℕ) (is : List (List Field)) → flatMap writtenLine (unwritten access [] ∷ flatMap (itemFields access) is) ≡ bareLine access ++ flatMap (itemText access) is
+access-many : (access : ℕ) (is : List (List Field))
+    → flatMap writtenLine (unwritten access [] ∷ flatMap (itemFields access) is) ≡ bareLine access ++ flatMap (itemText access) is
 access-many access is =
     bare-more access (flatMap (itemFields access) is)
     ∙ ap (λ (t : List ℕ). bareLine access ++ t)
@@ -80,13 +82,18 @@ access-text : (access : ℕ) (entry : List Field) → flatMap writtenLine (acces
 unfolding accessFields accessText
 access-text access entry = go (isEmpty (itemsOf access entry))
   where
-    go : (t : Bool) → flatMap writtenLine (cond t (valueField access entry ∷ []) (unwritten access [] ∷ flatMap (itemFields access) (itemsOf access entry)))
+    go : (t : Bool)
+        → flatMap writtenLine (cond t (valueField access entry ∷ []) (unwritten access [] ∷ flatMap (itemFields access) (itemsOf access entry)))
         ≡ cond t (valueLine access entry) (bareLine access ++ flatMap (itemText access) (itemsOf access entry))
     go true = value-last access entry
     go false = access-many access (itemsOf access entry)
 
-rest-text : (entry : List Field) → flatMap writtenLine (contextFields executionContext entry ++ (valueField canCall entry ∷ valueField canReturn entry ∷ (accessFields canRead entry ++ accessFields canWrite entry)))
-    ≡ contextText executionContext entry ++ (valueLine canCall entry ++ (valueLine canReturn entry ++ (accessText canRead entry ++ accessText canWrite entry)))
+rest-text : (entry : List Field)
+    → flatMap writtenLine
+    (contextFields executionContext entry
+    ++ (valueField canCall entry ∷ valueField canReturn entry ∷ (accessFields canRead entry ++ accessFields canWrite entry)))
+    ≡ contextText executionContext entry
+    ++ (valueLine canCall entry ++ (valueLine canReturn entry ++ (accessText canRead entry ++ accessText canWrite entry)))
 rest-text entry =
     flatMap-append writtenLine (contextFields executionContext entry) _
     ∙ rw (
@@ -108,4 +115,5 @@ unfolding filledText written textOf
 filled-text fs =
     sym (flatMap-append writtenLine (upToNext principal fs) (flatMap entryFields (entriesOf fs))
     ∙ ap (λ (t : List ℕ). flatMap writtenLine (upToNext principal fs) ++ t)
-    (sym (flatMap-flatMap writtenLine entryFields (entriesOf fs)) ∙ ap (λ (g : List Field → List ℕ). flatMap g (entriesOf fs)) (λ i. λ entry. entry-text entry i)))
+    (sym (flatMap-flatMap writtenLine entryFields (entriesOf fs))
+    ∙ ap (λ (g : List Field → List ℕ). flatMap g (entriesOf fs)) (λ i. λ entry. entry-text entry i)))

@@ -5,7 +5,8 @@ use mathlib.Core.Bool.{Bool, true, false, cond, false≢true}
 use Prim.Native.Nat.{ℕ}
 use borrow.Author.Tests.{eqb-true}
 use Rattle.paper.specs.Common.{isEmpty, anyOf}
-use Rattle.paper.specs.Listing.{listing, rowAt, bareIsNone, principal, subjectOfEntry, executionContext, canCall, canReturn, canRead, canWrite, callContextIn, uidIn, gidIn, objectsIn, objectContextIn}
+use Rattle.paper.specs.Listing.{listing, rowAt, bareIsNone, principal, subjectOfEntry, executionContext, canCall, canReturn, canRead, canWrite}
+use Rattle.paper.specs.Listing.{callContextIn, uidIn, gidIn, objectsIn, objectContextIn}
 use Rattle.paper.specs.Page.{Field}
 use Rattle.paper.specs.Entries.{isAt, upToNext, stretchesFrom, entriesOf, itemsOf}
 use Rattle.laws.proofs.Tests.{both-true, both-left, both-right}
@@ -33,7 +34,8 @@ record ContextOrder (c : ℕ) : Type 0 where
   gid : mayCome (uidIn c) false (gidIn c) ≡ true
 
 module _ (c : ℕ) (o : ContextOrder c) where
-  context-comes : (q : ℕ) (bare : Bool) (e t : List Field) → mayCome q bare c ≡ true → inListingOrder (gidIn c) false t ≡ true → inListingOrder q bare (contextFields c e ++ t) ≡ true
+  context-comes : (q : ℕ) (bare : Bool) (e t : List Field) → mayCome q bare c ≡ true → inListingOrder (gidIn c) false t ≡ true
+      → inListingOrder q bare (contextFields c e ++ t) ≡ true
   unfolding contextFields
   context-comes q bare e t m h =
       bare-comes q bare c _ m
@@ -48,30 +50,35 @@ record AccessOrder (a : ℕ) : Type 0 where
   context : ContextOrder (objectContextIn a)
 
 module _ (a : ℕ) (o : AccessOrder a) where
-  item-comes : (q : ℕ) (bare : Bool) (item t : List Field) → mayCome q bare (objectsIn a) ≡ true → inListingOrder (gidIn (objectContextIn a)) false t ≡ true → inListingOrder q bare (itemFields a item ++ t) ≡ true
+  item-comes : (q : ℕ) (bare : Bool) (item t : List Field) → mayCome q bare (objectsIn a) ≡ true
+      → inListingOrder (gidIn (objectContextIn a)) false t ≡ true → inListingOrder q bare (itemFields a item ++ t) ≡ true
   unfolding itemFields
   item-comes q bare item t m h =
       value-comes q bare (objectsIn a) _ m item (context-comes (objectContextIn a) (o .context) (objectsIn a) false item t (o .inner) h)
 
-  items-come : (is : List (List Field)) (t : List Field) → inListingOrder (gidIn (objectContextIn a)) false t ≡ true → inListingOrder (gidIn (objectContextIn a)) false (flatMap (itemFields a) is ++ t) ≡ true
+  items-come : (is : List (List Field)) (t : List Field) → inListingOrder (gidIn (objectContextIn a)) false t ≡ true
+      → inListingOrder (gidIn (objectContextIn a)) false (flatMap (itemFields a) is ++ t) ≡ true
   unfolding flatMap
   items-come [] t h = h
   items-come (i ∷ is) t h =
       rw (append-assoc (itemFields a i) (flatMap (itemFields a) is) t)
       (item-comes (gidIn (objectContextIn a)) false i (flatMap (itemFields a) is ++ t) (o .again) (items-come is t h))
 
-  some-come : (is : List (List Field)) (t : List Field) → isEmpty is ≡ false → inListingOrder (gidIn (objectContextIn a)) false t ≡ true → inListingOrder a true (flatMap (itemFields a) is ++ t) ≡ true
+  some-come : (is : List (List Field)) (t : List Field) → isEmpty is ≡ false → inListingOrder (gidIn (objectContextIn a)) false t ≡ true
+      → inListingOrder a true (flatMap (itemFields a) is ++ t) ≡ true
   unfolding flatMap
   some-come [] t s h = absurd (false≢true (sym s))
   some-come (i ∷ is) t s h =
       rw (append-assoc (itemFields a i) (flatMap (itemFields a) is) t)
       (item-comes a true i (flatMap (itemFields a) is ++ t) (o .first) (items-come is t h))
 
-  access-comes : (q : ℕ) (bare : Bool) (e t : List Field) → mayCome q bare a ≡ true → inListingOrder a false t ≡ true → inListingOrder (gidIn (objectContextIn a)) false t ≡ true → inListingOrder q bare (accessFields a e ++ t) ≡ true
+  access-comes : (q : ℕ) (bare : Bool) (e t : List Field) → mayCome q bare a ≡ true → inListingOrder a false t ≡ true
+      → inListingOrder (gidIn (objectContextIn a)) false t ≡ true → inListingOrder q bare (accessFields a e ++ t) ≡ true
   unfolding accessFields
   access-comes q bare e t m h k = go (isEmpty (itemsOf a e)) refl
     where
-      go : (s : Bool) → isEmpty (itemsOf a e) ≡ s → inListingOrder q bare (cond s (valueField a e ∷ []) (unwritten a [] ∷ flatMap (itemFields a) (itemsOf a e)) ++ t) ≡ true
+      go : (s : Bool) → isEmpty (itemsOf a e) ≡ s
+          → inListingOrder q bare (cond s (valueField a e ∷ []) (unwritten a [] ∷ flatMap (itemFields a) (itemsOf a e)) ++ t) ≡ true
       go true s = value-comes q bare a t m e h
       go false s = bare-comes q bare a (flatMap (itemFields a) (itemsOf a e) ++ t) m (some-come (itemsOf a e) t s k)
 
@@ -133,11 +140,17 @@ rest-comes : (e t : List Field) → Behind t → inListingOrder principal true (
 unfolding entryRest
 rest-comes e t b =
     let r : inListingOrder canReturn false (accessFields canRead e ++ (accessFields canWrite e ++ t)) ≡ true
-    = access-comes canRead read-order canReturn false e (accessFields canWrite e ++ t) (entry-order .read) (write-comes canRead e t (entry-order .write) b) (write-comes (gidIn (objectContextIn canRead)) e t (entry-order .write-behind) b) in
-    let s = value-comes (gidIn executionContext) false canCall _ (entry-order .call) e (value-comes canCall false canReturn _ (entry-order .return) e r) in
+    = access-comes canRead read-order canReturn false e (accessFields canWrite e ++ t) (entry-order .read)
+    (write-comes canRead e t (entry-order .write) b) (write-comes (gidIn (objectContextIn canRead)) e t (entry-order .write-behind) b) in
+    let s = value-comes (gidIn executionContext) false canCall _ (entry-order .call) e
+    (value-comes canCall false canReturn _ (entry-order .return) e r) in
     let c = context-comes executionContext execution-order subjectOfEntry false e _ (entry-order .context) s in
     value-comes principal true subjectOfEntry _ (entry-order .subject) e
-    (rw (append-assoc (contextFields executionContext e) (valueField canCall e ∷ valueField canReturn e ∷ (accessFields canRead e ++ accessFields canWrite e)) t, append-assoc (accessFields canRead e) (accessFields canWrite e) t) c)
+    (rw (
+      append-assoc (contextFields executionContext e)
+          (valueField canCall e ∷ valueField canReturn e ∷ (accessFields canRead e ++ accessFields canWrite e)) t,
+      append-assoc (accessFields canRead e) (accessFields canWrite e) t,
+    ) c)
 
 entries-behind : (es : List (List Field)) → Behind (flatMap entryFields es)
 unfolding flatMap entryFields
@@ -156,7 +169,8 @@ unfolding flatMap
 flat-none = refl
 
 -- the first entry stands where the first one stood
-first-comes : (place : ℕ) (bare : Bool) (f : Field) (fs e : List Field) (es : List (List Field)) → f .place ≡ principal → inListingOrder place bare (f ∷ fs) ≡ true → inListingOrder place bare (flatMap entryFields (e ∷ es)) ≡ true
+first-comes : (place : ℕ) (bare : Bool) (f : Field) (fs e : List Field) (es : List (List Field)) → f .place ≡ principal
+    → inListingOrder place bare (f ∷ fs) ≡ true → inListingOrder place bare (flatMap entryFields (e ∷ es)) ≡ true
 unfolding flatMap entryFields inListingOrder mayFollow mayCome unwritten
 first-comes place bare f fs e es p h =
     both-true _ (inListingOrder principal true (entryRest e ++ flatMap entryFields es))
@@ -165,21 +179,26 @@ first-comes place bare f fs e es p h =
 
 -- a field before it stays
 stays : (place : ℕ) (bare : Bool) (f : Field) (fs gs : List Field) → inListingOrder place bare (f ∷ fs) ≡ true
-    → (inListingOrder (f .place) (isEmpty (f .value)) fs ≡ true → inListingOrder (f .place) (isEmpty (f .value)) gs ≡ true) → inListingOrder place bare (f ∷ gs) ≡ true
+    → (inListingOrder (f .place) (isEmpty (f .value)) fs ≡ true → inListingOrder (f .place) (isEmpty (f .value)) gs ≡ true)
+    → inListingOrder place bare (f ∷ gs) ≡ true
 unfolding inListingOrder
 stays place bare f fs gs h ih =
     both-true (mayFollow place bare f) (inListingOrder (f .place) (isEmpty (f .value)) gs)
     (both-left (mayFollow place bare f) _ h)
     (ih (both-right (mayFollow place bare f) _ h))
 
-maps-come : (place : ℕ) (bare : Bool) (fs : List Field) → inListingOrder place bare fs ≡ true → inListingOrder place bare (upToNext principal fs ++ flatMap entryFields (stretchesFrom principal fs)) ≡ true
+maps-come : (place : ℕ) (bare : Bool) (fs : List Field) → inListingOrder place bare fs ≡ true
+    → inListingOrder place bare (upToNext principal fs ++ flatMap entryFields (stretchesFrom principal fs)) ≡ true
 unfolding upToNext stretchesFrom
 maps-come place bare [] h = rw flat-none h
 maps-come place bare (f ∷ fs) h = go (isAt principal f) refl (maps-come (f .place) (isEmpty (f .value)) fs)
   where
     go : (t : Bool) → isAt principal f ≡ t
-        → (inListingOrder (f .place) (isEmpty (f .value)) fs ≡ true → inListingOrder (f .place) (isEmpty (f .value)) (upToNext principal fs ++ flatMap entryFields (stretchesFrom principal fs)) ≡ true)
-        → inListingOrder place bare (cond t [] (f ∷ upToNext principal fs) ++ flatMap entryFields (cond t ((f ∷ upToNext principal fs) ∷ stretchesFrom principal fs) (stretchesFrom principal fs))) ≡ true
+        → (inListingOrder (f .place) (isEmpty (f .value)) fs ≡ true
+        → inListingOrder (f .place) (isEmpty (f .value)) (upToNext principal fs ++ flatMap entryFields (stretchesFrom principal fs)) ≡ true)
+        → inListingOrder place bare
+        (cond t [] (f ∷ upToNext principal fs)
+        ++ flatMap entryFields (cond t ((f ∷ upToNext principal fs) ∷ stretchesFrom principal fs) (stretchesFrom principal fs))) ≡ true
     go true e ih = first-comes place bare f fs (f ∷ upToNext principal fs) (stretchesFrom principal fs) (eqb-true (f .place) principal e) h
     go false e ih = stays place bare f fs (upToNext principal fs ++ flatMap entryFields (stretchesFrom principal fs)) h ih
 

@@ -7,14 +7,15 @@ use lib.Dec.{eqb}
 use borrow.Author.Tests.{eqb-true, eq-eqb}
 use Rattle.paper.proofs.Computing.{computing}
 use Rattle.paper.specs.Common.{bytes, isEmpty, allOf, anyOf}
-use Rattle.paper.specs.Listing.{rowAt, bareIsNone, valueFault, principal, subjectOfEntry, executionContext, canCall, canReturn, canRead, canWrite, callContextIn, uidIn, gidIn, objectsIn, objectContextIn}
+use Rattle.paper.specs.Listing.{rowAt, bareIsNone, valueFault, principal, subjectOfEntry, executionContext, canCall, canReturn, canRead, canWrite}
+use Rattle.paper.specs.Listing.{callContextIn, uidIn, gidIn, objectsIn, objectContextIn}
 use Rattle.paper.specs.Page.{Field}
 use Rattle.paper.specs.Entries.{isAt, defaultAt, meant, valueAt, upToNext, stretchesFrom, entriesOf, itemsOf}
 use Rattle.laws.proofs.Tests.{both-true, both-left, both-right, either-right}
 use Rattle.laws.proofs.Counting.{allOf-weaker, allOf-append, allOf-flatMap}
 use Rattle.laws_page.specs.Right.{isRight, inListingOrder}
 use Rattle.laws_file.specs.Accepted.{isFilled}
-use Rattle.laws_file.proofs.Stretched.{allOf-both, stretches-all, value-holds}
+use Rattle.laws_file.proofs.Stretched.{allOf-both, next-all, stretches-all, value-holds}
 use Rattle.laws_file.proofs.Ordered.{fields-filled, subjects-said}
 use Rattle.laws_filled.specs.Fields.{unwritten, valueField, contextFields, itemFields, accessFields, entryRest, entryFields, written}
 
@@ -40,7 +41,8 @@ module _ (p : ℕ) (n : noneRight p ≡ true) where
       n
     where
       go : (t none block : Bool) → (t || eqb (valueFault (rowAt p .value) (f .value)) 0) ≡ true → (not t || none || block) ≡ true
-          → (not (none || block) || eqb (valueFault (rowAt p .value) (bytes "[]")) 0) ≡ true → valueFault (rowAt p .value) (cond t (bytes "[]") (f .value)) ≡ 0
+          → (not (none || block) || eqb (valueFault (rowAt p .value) (bytes "[]")) 0) ≡ true
+          → valueFault (rowAt p .value) (cond t (bytes "[]") (f .value)) ≡ 0
       go true true block r w k = eqb-true (valueFault (rowAt p .value) (bytes "[]")) 0 k
       go true false true r w k = eqb-true (valueFault (rowAt p .value) (bytes "[]")) 0 k
       go true false false r w k = absurd (false≢true w)
@@ -62,47 +64,39 @@ bare-right p = refl
 
 -- ---- the places, computed
 
-record Fills (p : ℕ) : Type 0 where
-  none : noneRight p ≡ true
-  default : defaultRight p ≡ true
+-- what may stand there of itself is right: `[]` for a bare field, and the default
+unfoldable fills : ℕ → Bool
+fills p = noneRight p && defaultRight p
 
 record ContextFills (c : ℕ) : Type 0 where
-  call : Fills (callContextIn c)
-  uid : Fills (uidIn c)
-  gid : Fills (gidIn c)
+  call : fills (callContextIn c) ≡ true
+  uid : fills (uidIn c) ≡ true
+  gid : fills (gidIn c) ≡ true
 
 record AccessFills (a : ℕ) : Type 0 where
-  line : Fills a
-  objects : Fills (objectsIn a)
+  line : fills a ≡ true
+  objects : fills (objectsIn a) ≡ true
   context : ContextFills (objectContextIn a)
 
 execution-fills : ContextFills executionContext
-unfolding computing noneRight defaultRight
-execution-fills = record { call = record { none = refl; default = refl }; uid = record { none = refl; default = refl }; gid = record { none = refl; default = refl } }
+unfolding computing fills noneRight defaultRight
+execution-fills = record { call = refl; uid = refl; gid = refl }
 
 read-fills : AccessFills canRead
-unfolding computing noneRight defaultRight
-read-fills = record {
-  line = record { none = refl; default = refl };
-  objects = record { none = refl; default = refl };
-  context = record { call = record { none = refl; default = refl }; uid = record { none = refl; default = refl }; gid = record { none = refl; default = refl } };
-}
+unfolding computing fills noneRight defaultRight
+read-fills = record { line = refl; objects = refl; context = record { call = refl; uid = refl; gid = refl } }
 
 write-fills : AccessFills canWrite
-unfolding computing noneRight defaultRight
-write-fills = record {
-  line = record { none = refl; default = refl };
-  objects = record { none = refl; default = refl };
-  context = record { call = record { none = refl; default = refl }; uid = record { none = refl; default = refl }; gid = record { none = refl; default = refl } };
-}
+unfolding computing fills noneRight defaultRight
+write-fills = record { line = refl; objects = refl; context = record { call = refl; uid = refl; gid = refl } }
 
-call-fills : Fills canCall
-unfolding computing noneRight defaultRight
-call-fills = record { none = refl; default = refl }
+call-fills : fills canCall ≡ true
+unfolding computing fills noneRight defaultRight
+call-fills = refl
 
-return-fills : Fills canReturn
-unfolding computing noneRight defaultRight
-return-fills = record { none = refl; default = refl }
+return-fills : fills canReturn ≡ true
+unfolding computing fills noneRight defaultRight
+return-fills = refl
 
 subject-none : noneRight subjectOfEntry ≡ true
 unfolding computing noneRight
@@ -118,8 +112,11 @@ none-right : allOf isRight [] ≡ true
 unfolding allOf
 none-right = refl
 
-fields-fill : (p : ℕ) (e fs : List Field) → Fills p → allOf isSound e ≡ true → allOf isRight fs ≡ true → allOf isRight (valueField p e ∷ fs) ≡ true
-fields-fill p e fs k s h = some-right (valueField p e) fs (fill-right p (k .none) e (k .default) s) h
+fields-fill : (p : ℕ) (e fs : List Field) → fills p ≡ true → allOf isSound e ≡ true → allOf isRight fs ≡ true
+    → allOf isRight (valueField p e ∷ fs) ≡ true
+unfolding fills
+fields-fill p e fs k s h =
+    some-right (valueField p e) fs (fill-right p (both-left (noneRight p) _ k) e (both-right (noneRight p) _ k) s) h
 
 context-right : (c : ℕ) (e : List Field) → ContextFills c → allOf isSound e ≡ true → allOf isRight (contextFields c e) ≡ true
 unfolding contextFields
@@ -140,7 +137,8 @@ access-right a e k s = go (isEmpty (stretchesFrom (objectsIn a) e))
     go false =
         some-right (unwritten a []) _ (bare-right a)
         (allOf-flatMap isRight (itemFields a) (stretchesFrom (objectsIn a) e)
-        (allOf-weaker (allOf isSound) (λ item. allOf isRight (itemFields a item)) (λ item h. item-right a item k h) (stretchesFrom (objectsIn a) e) (stretches-all (objectsIn a) isSound e s)))
+        (allOf-weaker (allOf isSound) (λ item. allOf isRight (itemFields a item)) (λ item h. item-right a item k h) (stretchesFrom (objectsIn a) e)
+        (stretches-all (objectsIn a) isSound e s)))
 
 -- an entry whose fields are sound and that says its subject
 unfoldable isSoundEntry : List Field → Bool
@@ -155,24 +153,17 @@ entry-right e h =
     (some-right (valueField subjectOfEntry e) _ (value-right subjectOfEntry subject-none e s (λ k. absurd (false≢true (sym k ∙ said))))
     (allOf-append isRight (contextFields executionContext e) _ (context-right executionContext e execution-fills s)
     (fields-fill canCall e _ call-fills s
-    (fields-fill canReturn e _ return-fills s (allOf-append isRight (accessFields canRead e) (accessFields canWrite e) (access-right canRead e read-fills s) (access-right canWrite e write-fills s))))))
-
--- what holds of all fields holds of those before the next one of a place
-pub front-all : (test : Field → Bool) (place : ℕ) (fs : List Field) → allOf test fs ≡ true → allOf test (upToNext place fs) ≡ true
-unfolding allOf upToNext
-front-all test place [] h = refl
-front-all test place (f ∷ fs) h = go (isAt place f) (both-left (test f) _ h) (front-all test place fs (both-right (test f) _ h))
-  where
-    go : (t : Bool) → test f ≡ true → allOf test (upToNext place fs) ≡ true → allOf test (cond t [] (f ∷ upToNext place fs)) ≡ true
-    go true p q = refl
-    go false p q = both-true (test f) _ p q
+    (fields-fill canReturn e _ return-fills s
+    (allOf-append isRight (accessFields canRead e) (accessFields canWrite e) (access-right canRead e read-fills s)
+    (access-right canWrite e write-fills s))))))
 
 -- with every default written, the fields of a page stay right
 pub written-right : (fs : List Field) → inListingOrder 0 false fs ≡ true → allOf isRight fs ≡ true → allOf isRight (written fs) ≡ true
 unfolding written isSound entriesOf isSoundEntry
 written-right fs o r =
     let sound : allOf isSound fs ≡ true = allOf-both isRight isFilled fs r (fields-filled 0 false fs o) in
-    allOf-append isRight (upToNext principal fs) (flatMap entryFields (stretchesFrom principal fs)) (front-all isRight principal fs r)
+    allOf-append isRight (upToNext principal fs) (flatMap entryFields (stretchesFrom principal fs)) (next-all principal isRight fs r)
     (allOf-flatMap isRight entryFields (stretchesFrom principal fs)
     (allOf-weaker isSoundEntry (λ e. allOf isRight (entryFields e)) entry-right (stretchesFrom principal fs)
-    (allOf-both (allOf isSound) (λ e. anyOf (isAt subjectOfEntry) e) (stretchesFrom principal fs) (stretches-all principal isSound fs sound) (subjects-said 0 false fs o r))))
+    (allOf-both (allOf isSound) (λ e. anyOf (isAt subjectOfEntry) e) (stretchesFrom principal fs) (stretches-all principal isSound fs sound)
+    (subjects-said 0 false fs o r))))

@@ -5,7 +5,8 @@ use mathlib.Core.Bool.{cond}
 use lib.ListN.{length}
 use Rattle.paper.specs.Common.{isEmpty}
 use Rattle.paper.specs.Text.{noLine}
-use Rattle.paper.specs.Listing.{keyAt, principal, subjectOfEntry, executionContext, canCall, canReturn, canRead, canWrite, callContextIn, uidIn, gidIn, objectsIn, objectContextIn}
+use Rattle.paper.specs.Listing.{keyAt, principal, subjectOfEntry, executionContext, canCall, canReturn, canRead, canWrite, callContextIn, uidIn}
+use Rattle.paper.specs.Listing.{gidIn, objectsIn, objectContextIn}
 use Rattle.paper.specs.Page.{Field}
 use Rattle.paper.specs.Entries.{valueAt, upToNext, entriesOf, itemsOf}
 use Rattle.paper.specs.Filled.{writtenLine}

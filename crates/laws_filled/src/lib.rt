@@ -1,1 +1,1 @@
-// No code: reading the filled text gives the same table. The statements stand in specs/, the proofs in proofs/.
+// No code: reading the filled text gives the same table, and filling it again the same text. The statements stand in specs/, the proofs in proofs/.

@@ -32,7 +32,8 @@ ended : (st : State) (n k m : ℕ) → m ≡ n → atEnd st m ≡ fault k m → 
 unfolding pageFrom
 ended st n k m q e = rw (← q) e
 
-free-before : {st e : State} {n : ℕ} {before : List Line} (rest : List Line) (k m : ℕ) → Free st n before e → pageFrom e (n + length before) rest ≡ fault k m → pageFrom st n (before ++ rest) ≡ fault k m
+free-before : {st e : State} {n : ℕ} {before : List Line} (rest : List Line) (k m : ℕ) → Free st n before e
+    → pageFrom e (n + length before) rest ≡ fault k m → pageFrom st n (before ++ rest) ≡ fault k m
 free-before {n} rest k m first.Free.none h = let q : n + 0 ≡ n = omega arith in rw q at h
 free-before rest k m (first.Free.one {st} {st′} {e} {n} {l} {ls} {fs} p f) h =
     let q : n + suc (length ls) ≡ n + 1 + length ls = omega arith in

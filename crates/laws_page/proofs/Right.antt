@@ -78,7 +78,18 @@ module _ (st : State) (n : ℕ) (l : Line) where
         inr (
           record { line = n; place = p; start = l .start + length (keyAt p); value = [] },
           refl,
-          record { line = refl; ended = u; placed = a; filled = w; after = refl; right = refl; behind = length (keyAt p); keyed = omega arith; starts = refl; value = sym (empty-is (drop (length (keyAt p)) (l .text)) e) },
+          record {
+            line = refl;
+            ended = u;
+            placed = a;
+            filled = w;
+            after = refl;
+            right = refl;
+            behind = length (keyAt p);
+            keyed = omega arith;
+            starts = refl;
+            value = sym (empty-is (drop (length (keyAt p)) (l .text)) e);
+          },
         )
 
     yields-value : (k : ℕ) → k ≡ valueFault (rowAt p .value) (drop 1 (drop (length (keyAt p)) (l .text))) → oneSpaceAndValue (drop (length (keyAt p)) (l .text)) ≡ true

@@ -1,11 +1,8 @@
 -- What the filler answers and leaves after every number, with room for one byte too few, the exact length, and more (document 01, "Numbers that come back").
 use Prim.Native.Nat.{ℕ}
 use mathlib.Core.Path.{_≡_, refl}
-use mathlib.Core.Bool.{true, false}
 use mathlib.Core.List.{List, [], _∷_, _++_, map}
-use lib.Dec.{ltb}
 use lib.ListN.{length, drop, replicate}
-use Rattle.paper.specs.declared.Filling.{Filling}
 use Rattle.paper.specs.declared.Filling.the-variants.{Written, Unfilled}
 use Rattle.paper.specs.Page.{Field, fields, fault}
 use Rattle.paper.specs.Filled.{filledText}

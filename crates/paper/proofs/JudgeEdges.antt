@@ -6,8 +6,8 @@ use mathlib.Core.List.{List, [], _∷_, map}
 use lib.ListN.{replicate}
 use Rattle.paper.specs.declared.Verdict.{Verdict}
 use Rattle.paper.specs.declared.Verdict.the-variants.{Inside, Granted, Violation, Unjudged}
-use Rattle.paper.specs.Scalars.{Sort, anyone, variable, root, user}
-use Rattle.paper.specs.Policy.{Element, all, fn, Grant, every, these, Descriptor, Entry, Policy}
+use Rattle.paper.specs.Scalars.{anyone}
+use Rattle.paper.specs.Policy.{fn, Grant, every, these, Descriptor, Entry, Policy}
 use Rattle.paper.specs.Table.{policyIn, wellFormed}
 use Rattle.paper.specs.Match.{Moment}
 use Rattle.paper.specs.Promises.{judgeEvent, judgeAnswer}

@@ -11,7 +11,7 @@ use Rattle.paper.specs.Common.{bytes, countUp}
 use Rattle.paper.specs.Listing.{objectName, objectMembers, subjectName, subjectMembers, principal, executionContext, canRead, canWrite}
 use Rattle.paper.specs.Listing.{callContextIn, objectsIn, objectContextIn}
 use Rattle.paper.specs.Text.{badByteLine}
-use Rattle.paper.specs.Page.{Field, Outcome, fault, pageOf}
+use Rattle.paper.specs.Page.{Field, fault, pageOf}
 use Rattle.paper.specs.Rules.{overLimit, unlessLine}
 use Rattle.paper.specs.Promises.{textPage, fileOf}
 use Rattle.paper.proofs.Computing.{computing}

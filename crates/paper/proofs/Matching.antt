@@ -4,7 +4,7 @@ use mathlib.Core.Path.{_≡_, refl}
 use mathlib.Core.Bool.{Bool, true, false}
 use mathlib.Core.List.{List, [], _∷_, map}
 use Rattle.paper.specs.Scalars.{Sort, anyone, variable, root, user}
-use Rattle.paper.specs.Policy.{Element, all, fn, Context, every, Entry, Policy}
+use Rattle.paper.specs.Policy.{Element, all, fn, Context, every}
 use Rattle.paper.specs.Match.{Moment, matches, sortFits, allocatedSortFits, entryMatches, contextFitsObject}
 use Rattle.paper.proofs.Computing.{computing}
 use Rattle.paper.proofs.WorkedPolicy.{context, anyContext}

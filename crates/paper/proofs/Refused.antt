@@ -1,6 +1,6 @@
 -- One text for each number from 3 to 11 with its line, and one that is accepted: what the claims on reader, filler and lookup go through.
 use Prim.Native.Nat.{ℕ}
-use mathlib.Core.List.{List, [], _∷_, _++_}
+use mathlib.Core.List.{List, [], _∷_}
 use Rattle.paper.specs.Common.{bytes}
 use Rattle.paper.proofs.Texts.{Trial, text, entry, entryOf, contextOf, reading, seventeen}
 

@@ -1,12 +1,12 @@
 -- The policy that words hold (docs/TABLE.md): read off the second worked file's table, and off single contexts, grants and sets.
 use Prim.Native.Nat.{ℕ, _+_, _*_}
 use mathlib.Core.Path.{_≡_, refl}
-use mathlib.Core.Bool.{Bool, true, false}
+use mathlib.Core.Bool.{true, false}
 use mathlib.Core.List.{List, [], _∷_, _++_, map}
 use lib.ListN.{getD, replicate}
 use Rattle.paper.specs.Common.{countUp}
 use Rattle.paper.specs.Scalars.{anyone, variable, root, user}
-use Rattle.paper.specs.Policy.{all, fn, Grant, every, these, Policy}
+use Rattle.paper.specs.Policy.{all, fn, every, these}
 use Rattle.paper.specs.Overlap.{entryOfPolicy}
 use Rattle.paper.specs.Table.{objectDomainCount, subjectDomainCount, objectCount, functionCount, entryCount, objectDomainsIn, functionDomainsIn}
 use Rattle.paper.specs.Table.{contextIn, grantIn, isIn, withDomain, descriptorIn, firstDescriptor, entryIn, policyIn}

@@ -1,7 +1,7 @@
 -- Texts with the number and line that each gets, 0 and 0 where it is accepted: what the claims on refusals are written in.
 use Prim.Native.Nat.{ℕ}
 use Prim.Native.String.{String}
-use mathlib.Core.List.{List, [], _∷_, _++_, map, flatMap}
+use mathlib.Core.List.{List, [], _++_, map, flatMap}
 use Rattle.paper.specs.Common.{bytes, countUp}
 use Rattle.paper.specs.Page.{Field, Outcome, fields, fault}
 use Rattle.paper.specs.Promises.{fileOf}

@@ -29,6 +29,10 @@ pub const ALLOCATION_STACK: u16 = 22;
 
 pub const OPERATION: u16 = 23;
 
+pub const OUTPUT_TOO_SHORT: u16 = 30;
+
+pub const FILLED_TOO_LONG: u16 = 31;
+
 pub const WITNESS_TOO_SHORT: u16 = 40;
 
 // The line of a refusal that has none.

@@ -16,6 +16,7 @@ use Rattle.paper.specs.Listing.{listing, rowAt, keyAt, dashed, alongside, begin
 use Rattle.paper.specs.Page.{placeOf}
 use Rattle.text_keys.specs.Rows.{Said, keyText, placesUpTo, seen, told}
 use Rattle.text_keys.specs.Asked.{answer}
+use Rattle.text_keys.specs.declared.Stand.{Stand}
 use Rattle.text_keys.specs.declared.rows.Row.{Row}
 use Rattle.text_keys.specs.declared.rows.Key.{Key}
 use Rattle.text_keys.specs.declared.Answer.{Answer}
@@ -59,14 +60,15 @@ module _ (key k : Key) (e : key ≡ k) where
   pub answer-of : (l : List ℕ) (r : Answer) → r ≡ answer (keyText k) l → r ≡ answer (keyText key) l
   answer-of l r f = f ∙ ap (λ (x : Key). answer (keyText x) l) (sym e)
 
-  pub column-of : (n : ℕ) → n ≡ column (keyText k) → n ≡ column (keyText key)
-  column-of n f = f ∙ ap (λ (x : Key). column (keyText x)) (sym e)
+  module _ (s : Stand) (n : ℕ) (d : Bool) (q : s ≡ record { column = n; dashed = d }) where
+    pub column-of : n ≡ column (keyText k) → s .column ≡ column (keyText key)
+    column-of f = rw (e, q) f
 
-  pub dashed-of : (r : Bool) → r ≡ dashed (keyText k) → r ≡ dashed (keyText key)
-  dashed-of r f = f ∙ ap (λ (x : Key). dashed (keyText x)) (sym e)
+    pub dashed-of : d ≡ dashed (keyText k) → s .dashed ≡ dashed (keyText key)
+    dashed-of f = rw (e, q) f
 
 -- the row that the code found has the key of the place
-key-of : (p : ℕ) (r : Row) → seen r ≡ told (rowAt p) → keyText (r .key) ≡ keyAt p
+pub key-of : (p : ℕ) (r : Row) → seen r ≡ told (rowAt p) → keyText (r .key) ≡ keyAt p
 unfolding keyAt
 key-of p r e = ap (λ (s : Said). s .key) e
 

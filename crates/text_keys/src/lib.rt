@@ -21,6 +21,12 @@ const IN_PRINCIPAL: usize = 4;
 
 const IN_CONTEXT: usize = 6;
 
+// How a key stands on its line: at a column, perhaps behind a dash.
+pub struct Stand {
+    pub column: usize,
+    pub dashed: bool,
+}
+
 // Whether a line begins with a key; yes with how long the key is.
 enum Answer {
     No,
@@ -63,55 +69,35 @@ fn key_asked(key: Key, l: &[u8]) -> Answer
     }
 }
 
-fn key_column(key: Key) -> usize
-    ensures { λ r. ⌜ r ≡ column (keyText key) ⌝ }
+fn stands_at(column: usize, dashed: bool) -> Stand
+    ensures { λ r. ⌜ r ≡ record { column = column; dashed = dashed } ⌝ }
 {
-    match key {
-        Key::Nothing => TOP,
-        Key::ObjectMap => TOP,
-        Key::Name => TOP,
-        Key::Objects => IN_ITEM,
-        Key::SubjectMap => TOP,
-        Key::Subjects => IN_ITEM,
-        Key::Privileges => TOP,
-        Key::Principal => TOP,
-        Key::Subject => IN_PRINCIPAL,
-        Key::ExecutionContext => IN_PRINCIPAL,
-        Key::CallContext => IN_CONTEXT,
-        Key::Uid => IN_CONTEXT,
-        Key::Gid => IN_CONTEXT,
-        Key::CanCall => IN_ITEM,
-        Key::CanReturn => IN_ITEM,
-        Key::CanRead => IN_ITEM,
-        Key::ItemObjects => IN_ITEM,
-        Key::ObjectContext => IN_PRINCIPAL,
-        Key::CanWrite => IN_ITEM,
-    }
+    Stand { column, dashed }
 }
 
-fn key_dashed(key: Key) -> bool
-    ensures { λ r. ⌜ r ≡ dashed (keyText key) ⌝ }
+fn key_stand(key: Key) -> Stand
+    ensures { λ r. ⌜ (r .column ≡ column (keyText key)) × (r .dashed ≡ dashed (keyText key)) ⌝ }
 {
     match key {
-        Key::Nothing => false,
-        Key::ObjectMap => false,
-        Key::Name => true,
-        Key::Objects => false,
-        Key::SubjectMap => false,
-        Key::Subjects => false,
-        Key::Privileges => false,
-        Key::Principal => true,
-        Key::Subject => false,
-        Key::ExecutionContext => false,
-        Key::CallContext => false,
-        Key::Uid => false,
-        Key::Gid => false,
-        Key::CanCall => false,
-        Key::CanReturn => false,
-        Key::CanRead => false,
-        Key::ItemObjects => true,
-        Key::ObjectContext => false,
-        Key::CanWrite => false,
+        Key::Nothing => stands_at(TOP, false),
+        Key::ObjectMap => stands_at(TOP, false),
+        Key::Name => stands_at(TOP, true),
+        Key::Objects => stands_at(IN_ITEM, false),
+        Key::SubjectMap => stands_at(TOP, false),
+        Key::Subjects => stands_at(IN_ITEM, false),
+        Key::Privileges => stands_at(TOP, false),
+        Key::Principal => stands_at(TOP, true),
+        Key::Subject => stands_at(IN_PRINCIPAL, false),
+        Key::ExecutionContext => stands_at(IN_PRINCIPAL, false),
+        Key::CallContext => stands_at(IN_CONTEXT, false),
+        Key::Uid => stands_at(IN_CONTEXT, false),
+        Key::Gid => stands_at(IN_CONTEXT, false),
+        Key::CanCall => stands_at(IN_ITEM, false),
+        Key::CanReturn => stands_at(IN_ITEM, false),
+        Key::CanRead => stands_at(IN_ITEM, false),
+        Key::ItemObjects => stands_at(IN_ITEM, true),
+        Key::ObjectContext => stands_at(IN_PRINCIPAL, false),
+        Key::CanWrite => stands_at(IN_ITEM, false),
     }
 }
 
@@ -126,10 +112,11 @@ fn dashed(l: &[u8]) -> bool
 fn alongside(key: Key, l: &[u8]) -> bool
     ensures { λ r. ⌜ r ≡ alongside (keyText key) (now (l .entry)) ⌝ }
 {
-    if text_lines::column(l) != key_column(key) {
+    let stand = key_stand(key);
+    if text_lines::column(l) != stand.column {
         return false;
     }
-    if key_dashed(key) {
+    if stand.dashed {
         return dashed(l);
     }
     true

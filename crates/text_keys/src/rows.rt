@@ -31,13 +31,18 @@ pub const SUBJECT: usize = 9;
 pub const EXECUTION_CONTEXT: usize = 10;
 
 // A context's keys stand behind it.
-const CALL_CONTEXT: usize = 1;
+pub const CALL_CONTEXT: usize = 1;
 
 pub const UID: usize = 2;
 
 pub const GID: usize = 3;
 
 const CONTEXT_PLACES: usize = 4;
+
+// Behind `can_read` or `can_write` stand an item's `objects` and its context.
+pub const ITEM_OBJECTS: usize = 1;
+
+pub const ITEM_CONTEXT: usize = 2;
 
 pub const EXECUTION_CALL_CONTEXT: usize = EXECUTION_CONTEXT + CALL_CONTEXT;
 
@@ -51,9 +56,9 @@ pub const CAN_RETURN: usize = CAN_CALL + 1;
 
 pub const CAN_READ: usize = CAN_RETURN + 1;
 
-pub const READ_OBJECTS: usize = CAN_READ + 1;
+pub const READ_OBJECTS: usize = CAN_READ + ITEM_OBJECTS;
 
-pub const READ_CONTEXT: usize = CAN_READ + 2;
+pub const READ_CONTEXT: usize = CAN_READ + ITEM_CONTEXT;
 
 pub const READ_CALL_CONTEXT: usize = READ_CONTEXT + CALL_CONTEXT;
 
@@ -63,9 +68,9 @@ pub const READ_GID: usize = READ_CONTEXT + GID;
 
 pub const CAN_WRITE: usize = READ_CONTEXT + CONTEXT_PLACES;
 
-pub const WRITE_OBJECTS: usize = CAN_WRITE + 1;
+pub const WRITE_OBJECTS: usize = CAN_WRITE + ITEM_OBJECTS;
 
-pub const WRITE_CONTEXT: usize = CAN_WRITE + 2;
+pub const WRITE_CONTEXT: usize = CAN_WRITE + ITEM_CONTEXT;
 
 pub const WRITE_CALL_CONTEXT: usize = WRITE_CONTEXT + CALL_CONTEXT;
 

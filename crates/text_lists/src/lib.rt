@@ -129,7 +129,7 @@ pub fn list_fault(scalar: Scalar, v: &[u8]) -> u16
     refusal::LAYOUT
 }
 
-fn is_all(v: &[u8]) -> bool
+pub fn is_all(v: &[u8]) -> bool
     ensures { λ r. ⌜ r ≡ is "all" (now (v .entry)) ⌝ }
 {
     text_bytes::same(b"all", v)

@@ -135,7 +135,8 @@ module _ (s places : List ℕ) (m at : ℕ) where
         placed = λ y h. placed-too y (rw left-is at h);
       }
 
-    pub apart-again : (end next : ℕ) → r ≡ Found end next → SpacedFrom s at → Ascends s places m → (LeftApart s places m at → repeats [] (elementsIn s) ≡ false) → (t : Bool) → (t ≡ true → OneOf places m at) → not t ≡ false
+    pub apart-again : (end next : ℕ) → r ≡ Found end next → SpacedFrom s at → Ascends s places m
+        → (LeftApart s places m at → repeats [] (elementsIn s) ≡ false) → (t : Bool) → (t ≡ true → OneOf places m at) → not t ≡ false
         → LeftApart s places m next → repeats [] (elementsIn s) ≡ false
     apart-again end next n w ascends inv t one h known = inv (one-more end next n w (one (not-false t h)) known ascends)
 

@@ -13,7 +13,8 @@ use Rattle.file_blocks.proofs.put_domains.Statement.{statement}
 use Rattle.file_blocks.proofs.put_domains.Tie as tie
 
 abbrev Inv-loop : tie.InvT-loop
-Inv-loop t ix n s domains₀ at₀ domains at = SpacedFrom s at × (length domains ≡ length domains₀) × (withNames (numbersIn t ix n) n domains (elementsLeft s at) ≡ withNames (numbersIn t ix n) n domains₀ (elementsIn s))
+Inv-loop t ix n s domains₀ at₀ domains at = SpacedFrom s at × (length domains ≡ length domains₀) ×
+    (withNames (numbersIn t ix n) n domains (elementsLeft s at) ≡ withNames (numbersIn t ix n) n domains₀ (elementsIn s))
 
 abbrev μ-loop : tie.MeasureT-loop
 μ-loop t ix n s domains₀ at₀ domains at = length s + 3 - at

@@ -1,5 +1,6 @@
 -- The values at the three keys have the context.
-use Rattle.file_blocks.proofs.Contexts.{pattern-fits, uid-fits, gid-fits, pattern-spaced, pattern-few, context-at}
+use Rattle.file_fields.proofs.Places.{pattern-fits, uid-fits, gid-fits}
+use Rattle.file_blocks.proofs.Contexts.{pattern-spaced, pattern-few, context-at}
 use borrow.Author.Needs.{needs}
 use Rattle.file_blocks.proofs.write_context.Statement.{statement}
 use Rattle.file_blocks.proofs.write_context.Tie as tie

@@ -1,5 +1,6 @@
 -- Three words, one behind the other.
-use Rattle.file_blocks.proofs.Contexts.{reads-are, writes-are, counts-written}
+use Rattle.file_fields.proofs.Places.{reads-are, writes-are}
+use Rattle.file_blocks.proofs.Contexts.{counts-written}
 use borrow.Author.Needs.{needs}
 use Rattle.file_blocks.proofs.write_counts.Statement.{statement}
 use Rattle.file_blocks.proofs.write_counts.Tie as tie

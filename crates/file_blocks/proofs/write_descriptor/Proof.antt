@@ -1,5 +1,5 @@
 -- The grant is written behind the context.
-use Rattle.file_blocks.proofs.Contexts.{is-object-context, object-context-fits, objects-fit, objects-default}
+use Rattle.file_fields.proofs.Places.{is-object-context, object-context-fits, objects-fit, objects-default}
 use Rattle.file_blocks.proofs.Entries.{fields-within, room-in-descriptor, front-of-descriptor, objects-room, objects-zero, descriptor-written}
 use borrow.Author.Needs.{needs}
 use Rattle.file_blocks.proofs.write_descriptor.Statement.{statement}
@@ -17,8 +17,10 @@ slice-aggregate-write-context c = search needs
 write-context-requires : tie.Need-write-context-requires
 write-context-requires c κs =
     let pre = c .before .before .before .before .before .before .pre in
-    let functions = pre .1 .1 .1 .1 .0 in
-    ((fields-within _ _ _ (pre .0 .0) (pre .0 .1), is-object-context _ (pre .1 .0)), ((functions .room, functions .few), (pre .1 .1 .1 .1 .1 .0, (pre .1 .1 .1 .1 .1 .1 .0, front-of-descriptor _ (pre .1 .1 .1 .1 .1 .1 .1)))))
+    let functions = pre .1 .1 .1 .1 .0 in (
+      (fields-within _ _ _ (pre .0 .0) (pre .0 .1), is-object-context _ (pre .1 .0)),
+      ((functions .room, functions .few), (pre .1 .1 .1 .1 .1 .0, (pre .1 .1 .1 .1 .1 .1 .0, front-of-descriptor _ (pre .1 .1 .1 .1 .1 .1 .1)))),
+    )
 
 add-write-grant : tie.Need-add-write-grant
 add-write-grant c = search (needs, objects-fit)
@@ -37,7 +39,14 @@ write-grant-requires c κs =
     let pre = c .before .before .before .before .before .before .before .before .before .before .pre in
     let context = c .before .before .before .write-context .ensures in (
       (fields-within _ _ _ (pre .0 .0) (pre .0 .1), objects-default _ (pre .1 .0)),
-      (pre .1 .1 .0 .room, (pre .1 .1 .1 .1 .1 .0, objects-zero _ _ _ _ _ _ _ _ (pre .1 .1 .0) (pre .1 .1 .1 .0) (pre .1 .1 .1 .1 .0) (pre .1 .1 .1 .1 .1 .1 .0) _ _ (pre .1 .1 .1 .1 .1 .1 .1) context)),
+      (
+        pre .1 .1 .0 .room,
+        (
+          pre .1 .1 .1 .1 .1 .0,
+          objects-zero _ _ _ _ _ _ _ _ (pre .1 .1 .0) (pre .1 .1 .1 .0) (pre .1 .1 .1 .1 .0)
+              (pre .1 .1 .1 .1 .1 .1 .0) _ _ (pre .1 .1 .1 .1 .1 .1 .1) context,
+        ),
+      ),
     )
 
 same-length : tie.Need-same-length

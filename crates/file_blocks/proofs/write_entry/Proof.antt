@@ -1,5 +1,5 @@
 -- Each part is written behind those before it.
-use Rattle.file_blocks.proofs.Contexts.{is-execution-context, call-default, return-default}
+use Rattle.file_fields.proofs.Places.{is-execution-context, call-default, return-default}
 use Rattle.file_blocks.proofs.Entries.{fields-within, room-in-entry, front-of-entry, entry-stays-long, calls-room, calls-zero, returns-room, returns-zero, entry-written}
 use borrow.Author.Needs.{needs}
 use Rattle.file_blocks.proofs.write_entry.Statement.{statement}
@@ -14,8 +14,10 @@ slice-aggregate-write-context c = search needs
 write-context-requires : tie.Need-write-context-requires
 write-context-requires c κs =
     let pre = c .before .before .before .before .before .before .pre in
-    let functions = pre .1 .1 .1 .0 in
-    ((fields-within _ _ _ (pre .0 .0) (pre .0 .1), is-execution-context), ((functions .room, functions .few), (pre .1 .1 .1 .1 .0, (pre .1 .1 .1 .1 .1 .0, front-of-entry _ (pre .1 .1 .1 .1 .1 .1 .1)))))
+    let functions = pre .1 .1 .1 .0 in (
+      (fields-within _ _ _ (pre .0 .0) (pre .0 .1), is-execution-context),
+      ((functions .room, functions .few), (pre .1 .1 .1 .1 .0, (pre .1 .1 .1 .1 .1 .0, front-of-entry _ (pre .1 .1 .1 .1 .1 .1 .1)))),
+    )
 
 write-counts-requires : tie.Need-write-counts-requires
 write-counts-requires c κs = search (needs, entry-stays-long)
@@ -57,8 +59,17 @@ write-grant-requires-2 c κs =
     let pre = c .before .before .before .before .before .before .before .before .before .before .before .before .before .before .before .before .before .before .pre in
     let context = c .before .before .before .before .before .before .before .before .before .before .before .write-context .ensures in
     let counts = c .before .before .before .before .before .before .before .write-counts .ensures in
-    let calls = c .before .before .before .write-grant .ensures in
-    ((fields-within _ _ _ (pre .0 .0) (pre .0 .1), return-default), (pre .1 .0 .room, (pre .1 .1 .1 .1 .0, returns-zero _ _ _ _ _ _ _ (pre .1 .0) (pre .1 .1 .0) (pre .1 .1 .1 .0) (pre .1 .1 .1 .1 .1 .0) _ _ (pre .1 .1 .1 .1 .1 .1 .1) context _ counts _ calls)))
+    let calls = c .before .before .before .write-grant .ensures in (
+      (fields-within _ _ _ (pre .0 .0) (pre .0 .1), return-default),
+      (
+        pre .1 .0 .room,
+        (
+          pre .1 .1 .1 .1 .0,
+          returns-zero _ _ _ _ _ _ _ (pre .1 .0) (pre .1 .1 .0) (pre .1 .1 .1 .0) (pre .1 .1 .1 .1 .1 .0) _ _
+              (pre .1 .1 .1 .1 .1 .1 .1) context _ counts _ calls,
+        ),
+      ),
+    )
 
 same-length : tie.Need-same-length
 same-length c = search needs

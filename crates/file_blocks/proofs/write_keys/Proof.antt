@@ -41,7 +41,8 @@ write-pattern-requires : tie.Need-write-pattern-requires
 write-pattern-requires c κs = search (needs, inside-is-spaced, pattern-room)
 
 same-length : tie.Need-same-length
-same-length c = context-stays-long _ (c .before .before .before .before .before .before .before .before .before .before .before .before .before .before .pre .1 .1 .1) _ _ _ _ _ (c .before .before .write-pattern .ensures)
+same-length c = context-stays-long _ (c .before .before .before .before .before .before .before .before .before .before .before .before .before
+    .before .pre .1 .1 .1) _ _ _ _ _ (c .before .before .write-pattern .ensures)
 
 returns : tie.Need-returns
 returns c = search (needs, context-written)

@@ -14,7 +14,8 @@ use Rattle.file_blocks.proofs.write_pattern.Statement.{statement}
 use Rattle.file_blocks.proofs.write_pattern.Tie as tie
 
 abbrev Inv-loop : tie.InvT-loop
-Inv-loop t ix n s out₀ i₀ at₀ out i at = SpacedFrom s at × (length out ≡ length out₀) × (i + length (elementsLeft s at) ≤ length out₀) × (putFrom i (map (wordBy (numbersIn t ix n)) (elementsLeft s at)) out ≡ putFrom 0 (map (wordBy (numbersIn t ix n)) (elementsIn s)) out₀)
+Inv-loop t ix n s out₀ i₀ at₀ out i at = SpacedFrom s at × (length out ≡ length out₀) × (i + length (elementsLeft s at) ≤ length out₀) ×
+    (putFrom i (map (wordBy (numbersIn t ix n)) (elementsLeft s at)) out ≡ putFrom 0 (map (wordBy (numbersIn t ix n)) (elementsIn s)) out₀)
 
 abbrev μ-loop : tie.MeasureT-loop
 μ-loop t ix n s out₀ i₀ at₀ out i at = length s + 3 - at

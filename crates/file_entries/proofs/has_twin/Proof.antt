@@ -10,7 +10,8 @@ use Rattle.file_entries.proofs.has_twin.Statement.{statement}
 use Rattle.file_entries.proofs.has_twin.Tie as tie
 
 abbrev Inv-loop : tie.InvT-loop
-Inv-loop t list starts hashes k j₀ j = (j ≤ k) × (anyOf (samePrincipal (entryIn t list starts k)) (entriesBelow t list starts j) ≡ anyOf (samePrincipal (entryIn t list starts k)) (entriesBelow t list starts k))
+Inv-loop t list starts hashes k j₀ j = (j ≤ k) × (anyOf (samePrincipal (entryIn t list starts k)) (entriesBelow t list starts j) ≡ anyOf
+    (samePrincipal (entryIn t list starts k)) (entriesBelow t list starts k))
 
 abbrev μ-loop : tie.MeasureT-loop
 μ-loop t list starts hashes k j₀ j = j

@@ -15,7 +15,10 @@ use Rattle.file_entries.proofs.twin_line.Statement.{statement}
 use Rattle.file_entries.proofs.twin_line.Tie as tie
 
 abbrev Inv-loop : tie.InvT-loop
-Inv-loop t list n starts₀ hashes₀ k₀ from₀ starts hashes k from = (length starts ≡ startsSize) × (length hashes ≡ mostEntries) × (getD starts k 0 ≡ from) × (nextAt list principal from (n - from) ≡ from) × AllHashed t list starts hashes k × (k + length (entriesOf (between t list from n)) ≤ mostEntries) × (twinAfter (entriesBelow t list starts k) (entriesOf (between t list from n)) ≡ twinPrincipal (between t list 0 n))
+Inv-loop t list n starts₀ hashes₀ k₀ from₀ starts hashes k from = (length starts ≡ startsSize) × (length hashes ≡ mostEntries) ×
+    (getD starts k 0 ≡ from) × (nextAt list principal from (n - from) ≡ from) × AllHashed t list starts hashes k ×
+    (k + length (entriesOf (between t list from n)) ≤ mostEntries) × (twinAfter (entriesBelow t list starts k) (entriesOf (between t list from n)) ≡
+    twinPrincipal (between t list 0 n))
 
 abbrev μ-loop : tie.MeasureT-loop
 μ-loop t list n starts₀ hashes₀ k₀ from₀ starts hashes k from = n - from

@@ -1,5 +1,6 @@
 -- One where the value is `all`, else one for each item.
-use Rattle.file_fields.proofs.Accesses.{item-place-fits, one-descriptor, items-counted, few-items}
+use Rattle.file_fields.proofs.Accesses.{one-descriptor, items-counted, few-items}
+use Rattle.file_fields.proofs.Places.{objects-fit}
 use borrow.Author.Needs.{needs}
 use Rattle.file_fields.proofs.descriptors_of.Statement.{statement}
 use Rattle.file_fields.proofs.descriptors_of.Tie as tie
@@ -20,7 +21,7 @@ returns : tie.Need-returns
 returns c = search (needs, one-descriptor)
 
 add-count-at : tie.Need-add-count-at
-add-count-at c = search (needs, item-place-fits)
+add-count-at c = search (needs, objects-fit)
 
 count-at-requires : tie.Need-count-at-requires
 count-at-requires c κs = search needs

@@ -1,7 +1,7 @@
--- Five stores, in the order in which `inserted` sets the words.
-use native.Mathlib.Omega.{arith}
+-- Four stores, in the order in which `insertedAt` sets the words.
 use lib.ListN.{length-set}
 use Rattle.file_index.proofs.Steps.{inserted-is}
+use native.Mathlib.Omega.{arith}
 use borrow.Author.Needs.{needs}
 use Rattle.file_index.proofs.insert.Statement.{statement}
 use Rattle.file_index.proofs.insert.Tie as tie
@@ -11,18 +11,6 @@ mul-at c = search needs
 
 add-at : tie.Need-add-at
 add-at c = search needs
-
-bucket-requires : tie.Need-bucket-requires
-bucket-requires c κs = search needs
-
-add-head : tie.Need-add-head
-add-head c = search needs
-
-mul-next : tie.Need-mul-next
-mul-next c = search needs
-
-slice-read-next : tie.Need-slice-read-next
-slice-read-next c = search needs
 
 add-ix : tie.Need-add-ix
 add-ix c = search needs
@@ -60,15 +48,6 @@ mul-ix-4 c = search needs
 slice-write-ix-4 : tie.Need-slice-write-ix-4
 slice-write-ix-4 c = simp length-set (omega arith)
 
-add-ix-5 : tie.Need-add-ix-5
-add-ix-5 c = search needs
-
-mul-ix-5 : tie.Need-mul-ix-5
-mul-ix-5 c = search needs
-
-slice-write-ix-5 : tie.Need-slice-write-ix-5
-slice-write-ix-5 c = simp length-set (omega arith)
-
 same-length : tie.Need-same-length
 same-length c = simp length-set
 
@@ -81,10 +60,6 @@ insert-spec =
     (tie.spec
     mul-at
     add-at
-    bucket-requires
-    add-head
-    mul-next
-    slice-read-next
     add-ix
     mul-ix
     slice-write-ix
@@ -97,8 +72,5 @@ insert-spec =
     add-ix-4
     mul-ix-4
     slice-write-ix-4
-    add-ix-5
-    mul-ix-5
-    slice-write-ix-5
     same-length
     returns)

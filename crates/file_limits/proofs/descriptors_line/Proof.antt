@@ -1,6 +1,6 @@
 -- The loop: what is left of the entries passes the limit where all of them do.
 use mathlib.Core.Path.{_≡_}
-use Prim.Native.Nat.{_-_, _<_, _≤_}
+use Prim.Native.Nat.{_-_, _≤_}
 use Rattle.paper.specs.Listing.{principal}
 use Rattle.paper.specs.Entries.{entriesOf, lineOfEntry}
 use Rattle.paper.specs.Rules.{passing, descriptorsIn}
@@ -12,7 +12,9 @@ use Rattle.file_limits.proofs.descriptors_line.Statement.{statement}
 use Rattle.file_limits.proofs.descriptors_line.Tie as tie
 
 abbrev Inv-loop : tie.InvT-loop
-Inv-loop t list n sum₀ from₀ sum from = (sum ≤ 256) × (nextAt list principal from (n - from) ≡ from) × (passing lineOfEntry descriptorsIn 256 sum (entriesOf (between t list from n)) ≡ passing lineOfEntry descriptorsIn 256 0 (entriesOf (between t list 0 n)))
+Inv-loop t list n sum₀ from₀ sum from = (sum ≤ 256) × (nextAt list principal from (n - from) ≡ from) ×
+    (passing lineOfEntry descriptorsIn 256 sum (entriesOf (between t list from n)) ≡ passing lineOfEntry descriptorsIn 256 0
+    (entriesOf (between t list 0 n)))
 
 abbrev μ-loop : tie.MeasureT-loop
 μ-loop t list n sum₀ from₀ sum from = n - from

@@ -10,7 +10,8 @@ use Rattle.file_limits.proofs.passing_line.Statement.{statement}
 use Rattle.file_limits.proofs.passing_line.Tie as tie
 
 abbrev Inv-loop : tie.InvT-loop
-Inv-loop t list n count place most sum₀ i₀ sum i = (sum ≤ most) × (passing (λ f. f .line) (weighed count place) most sum (between t list i n) ≡ passing (λ f. f .line) (weighed count place) most 0 (between t list 0 n))
+Inv-loop t list n count place most sum₀ i₀ sum i = (sum ≤ most) × (passing (λ f. f .line) (weighed count place) most sum (between t list i n) ≡
+    passing (λ f. f .line) (weighed count place) most 0 (between t list 0 n))
 
 abbrev μ-loop : tie.MeasureT-loop
 μ-loop t list n count place most sum₀ i₀ sum i = n - i

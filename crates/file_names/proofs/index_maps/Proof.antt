@@ -27,8 +27,11 @@ returns c =
     let pre = c .before .before .before .before .before .before .before .before .before .before .before .before .before .before .before .before .before .pre in
     let objects = c .before .before .before .before .before .before .before .before .before .before .index-domains .ensures in
     let subjects = c .before .before .before .before .before .before .index-domains2 .ensures in
-    let functions = c .before .before .index-members .ensures in
-    (maps-to _ _ _ (pre .0) (pre .1 .0) _ _ _ _ _ _ (pre .1 .1 .0) (pre .1 .1 .1 .0) (pre .1 .1 .1 .1) (objects .1) (subjects .1) (functions .1) _ _ _ (objects .0) (subjects .0) (functions .0), search needs)
+    let functions = c .before .before .index-members .ensures in (
+      maps-to _ _ _ (pre .0) (pre .1 .0) _ _ _ _ _ _ (pre .1 .1 .0) (pre .1 .1 .1 .0) (pre .1 .1 .1 .1) (objects .1) (subjects .1) (functions .1) _ _
+          _ (objects .0) (subjects .0) (functions .0),
+      search needs,
+    )
 
 pub index-maps-spec : {M : Type 1} → statement M
 index-maps-spec =

@@ -39,15 +39,22 @@ same-length-3 c = search needs
 
 returns : tie.Need-returns
 returns c =
-    let pre = c .before .before .before .before .before .before .before .before .before .before .before .before .before .before .before .before .before .before .before .before .before .before .before .pre in
+    let pre = c .before .before .before .before .before .before .before .before .before .before .before .before .before .before .before .before
+    .before .before .before .before .before .before .before .pre in
     let domains = c .before .before .before .before .before .before .before .before .before .before .before .before .before .before .before .before .before .domains-line .ensures in
     let objects = c .before .before .before .before .before .before .before .before .before .before .before .before .before .before .before .before .objects-line .ensures in
     let maps = c .before .before .before .before .before .before .before .before .before .before .before .before .index-maps .ensures in
     let lists = c .before .before .before .lists-line .ensures in
     let first = c .before .before .earlier .ensures in
     let second = c .before .earlier2 .ensures in
-    let third = c .earlier3 .ensures in
-    (twice-told _ _ _ (pre .0) (pre .1 .0) _ _ _ _ _ _ _ domains objects (maps .0 .line) lists first second third, (maps-told _ _ _ (pre .0) (pre .1 .0) _ _ _ _ _ _ _ domains objects (maps .0 .line) lists first second third _ _ _ _ (maps .0), distinct-told _ _ _ (pre .0) (pre .1 .0) _ _ _ _ _ _ _ domains objects (maps .0 .line) lists first second third))
+    let third = c .earlier3 .ensures in (
+      twice-told _ _ _ (pre .0) (pre .1 .0) _ _ _ _ _ _ _ domains objects (maps .0 .line) lists first second third,
+      (
+        maps-told _ _ _ (pre .0) (pre .1 .0) _ _ _ _ _ _ _ domains objects (maps .0 .line) lists first second third _ _ _ _ (maps .0),
+        distinct-told
+            _ _ _ (pre .0) (pre .1 .0) _ _ _ _ _ _ _ domains objects (maps .0 .line) lists first second third,
+      ),
+    )
 
 pub index-names-spec : {M : Type 1} → statement M
 index-names-spec =

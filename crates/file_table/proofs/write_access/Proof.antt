@@ -33,8 +33,23 @@ returns : tie.Need-returns
 returns c = search (needs, all-filled)
 
 write-items-requires : tie.Need-write-items-requires
-write-items-requires c κs =
-    (search needs, (search needs, (search needs, (search needs, items-room _ (c .before .before .before .before .before .before .before .before .before .before .before .pre .1 .0) _ _ _ _ _ (c .before .before .before .value-at .ensures) _ (c .before .before .is-all .ensures) (c .before .before .before .before .before .before .before .before .before .before .before .args .out .now) (c .before .before .before .before .before .before .before .before .before .before .before .pre .1 .1 .1 .1) (c .before .if1 .left)))))
+write-items-requires c κs = (
+  search needs,
+  (
+    search needs,
+    (
+      search needs,
+      (
+        search needs,
+        items-room _
+            (c .before .before .before .before .before .before .before .before .before .before .before .pre .1 .0) _ _ _ _ _
+            (c .before .before .before .value-at .ensures) _ (c .before .before .is-all .ensures)
+            (c .before .before .before .before .before .before .before .before .before .before .before .args .out .now)
+            (c .before .before .before .before .before .before .before .before .before .before .before .pre .1 .1 .1 .1) (c .before .if1 .left),
+      ),
+    ),
+  ),
+)
 
 same-length-2 : tie.Need-same-length-2
 same-length-2 c = search needs

@@ -24,11 +24,28 @@ part-write-access-end : tie.Need-part-write-access-end
 part-write-access-end c = search needs
 
 write-access-requires-2 : tie.Need-write-access-requires-2
-write-access-requires-2 c κs = (search needs, (writing, (search needs, (search (needs, writes-unwritten), writes-room _ _ _ _ _ _ (c .before .before .before .before .before .before .before .before .before .before .pre .1 .1 .1) _ _ (c .before .before .before .write-access .ensures)))))
+write-access-requires-2 c κs = (
+  search needs,
+  (
+    writing,
+    (
+      search needs,
+      (
+        search (needs, writes-unwritten),
+        writes-room _ _ _ _ _ _
+            (c .before .before .before .before .before .before .before .before .before .before .pre .1 .1 .1) _ _
+            (c .before .before .before .write-access .ensures),
+      ),
+    ),
+  ),
+)
 
 add-result : tie.Need-add-result
 add-result c =
-    let h = both-fit _ (c .before .before .before .before .before .before .before .before .before .before .before .before .before .args .out .now) _ _ (c .before .before .before .before .before .before .before .before .before .before .before .before .before .pre .1 .1 .1) (c .before .before .before .before .before .before .write-access .ensures .counted) (c .before .before .write-access2 .ensures .counted) (search (needs, c .before .before .before .before .before .before .before .before .before .before .before .before .before .good)) in
+    let h = both-fit _ (c .before .before .before .before .before .before .before .before .before .before .before .before .before .args .out .now) _
+    _ (c .before .before .before .before .before .before .before .before .before .before .before .before .before .pre .1 .1 .1)
+    (c .before .before .before .before .before .before .write-access .ensures .counted) (c .before .before .write-access2 .ensures .counted)
+    (search (needs, c .before .before .before .before .before .before .before .before .before .before .before .before .before .good)) in
     search (needs, h)
 
 same-length : tie.Need-same-length

@@ -1,7 +1,8 @@
 -- The loop: d descriptors are written, those of the entries before field `from`.
 use Prim.Native.Nat.{_-_}
-use Rattle.file_table.proofs.Walking.{walk-order, walk-within, walk-less}
-use Rattle.file_table.proofs.Accessed.{DescriptorsWritten, descriptors-begin, descriptors-start, descriptors-unwritten, descriptors-room, descriptors-number-fits, descriptors-again, descriptors-length, descriptors-all}
+use Rattle.file_fields.proofs.Walking.{walk-order, walk-within, walk-less}
+use Rattle.file_table.proofs.Accessed.{DescriptorsWritten, descriptors-begin, descriptors-start, descriptors-unwritten, descriptors-room}
+use Rattle.file_table.proofs.Accessed.{descriptors-number-fits, descriptors-again, descriptors-length, descriptors-all}
 use borrow.Author.Needs.{needs}
 use Rattle.file_table.proofs.write_descriptors.Statement.{statement}
 use Rattle.file_table.proofs.write_descriptors.Tie as tie

@@ -1,7 +1,8 @@
 -- The loop: k entries are written, those before field `from`.
 use Prim.Native.Nat.{_-_}
-use Rattle.file_table.proofs.Walking.{walk-within, walk-less}
-use Rattle.file_table.proofs.Entered.{EntriesWritten, entries-begin, entry-end, entry-unwritten, entry-spaced, entry-short, entry-reads, entry-writes, entries-again, entries-length, entries-all}
+use Rattle.file_fields.proofs.Walking.{walk-within, walk-less}
+use Rattle.file_table.proofs.Entered.{EntriesWritten, entries-begin, entry-end, entry-unwritten, entry-spaced, entry-short, entry-reads}
+use Rattle.file_table.proofs.Entered.{entry-writes, entries-again, entries-length, entries-all}
 use borrow.Author.Needs.{needs}
 use Rattle.file_table.proofs.write_entries.Statement.{statement}
 use Rattle.file_table.proofs.write_entries.Tie as tie
@@ -43,8 +44,25 @@ part-write-entry-end : tie.Need-part-write-entry-end Inv-loop μ-loop
 part-write-entry-end c = search (needs, entry-end)
 
 write-entry-requires : tie.Need-write-entry-requires Inv-loop μ-loop
-write-entry-requires c κs =
-    ((search needs, search (needs, walk-within)), (search needs, (search needs, (search needs, (search (needs, entry-spaced), (search (needs, entry-short), ((search (needs, entry-reads), search (needs, entry-writes)), search (needs, entry-unwritten))))))))
+write-entry-requires c κs = (
+  (search needs, search (needs, walk-within)),
+  (
+    search needs,
+    (
+      search needs,
+      (
+        search needs,
+        (
+          search (needs, entry-spaced),
+          (
+            search (needs, entry-short),
+            ((search (needs, entry-reads), search (needs, entry-writes)), search (needs, entry-unwritten)),
+          ),
+        ),
+      ),
+    ),
+  ),
+)
 
 add-k : tie.Need-add-k Inv-loop μ-loop
 add-k c = search needs

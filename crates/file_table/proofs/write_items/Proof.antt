@@ -1,9 +1,10 @@
 -- The loop: d descriptors are written, those of the items before field i.
 use Prim.Native.Nat.{_-_}
 use lib.ListN.{length}
-use Rattle.file_fields.proofs.Accesses.{item-place-fits}
-use Rattle.file_table.proofs.Walking.{walk-less}
-use Rattle.file_table.proofs.Described.{ItemsWritten, items-begin, items-at-fits, items-end-fits, item-end, item-within, item-unwritten, item-spaced, item-short, items-number-fits, items-again, items-all}
+use Rattle.file_fields.proofs.Places.{objects-fit}
+use Rattle.file_fields.proofs.Walking.{walk-less}
+use Rattle.file_table.proofs.Described.{ItemsWritten, items-begin, items-at-fits, items-end-fits, item-end, item-within, item-unwritten}
+use Rattle.file_table.proofs.Described.{item-spaced, item-short, items-number-fits, items-again, items-all}
 use borrow.Author.Needs.{needs}
 use Rattle.file_table.proofs.write_items.Statement.{statement}
 use Rattle.file_table.proofs.write_items.Tie as tie
@@ -15,7 +16,7 @@ abbrev μ-loop : tie.MeasureT-loop
 μ-loop t list n access from to objectIx objects functionIx functions out₀ d₀ i₀ out d i = to - i
 
 add-next-at : tie.Need-add-next-at Inv-loop μ-loop
-add-next-at c = search (needs, item-place-fits)
+add-next-at c = search (needs, objects-fit)
 
 next-at-requires : tie.Need-next-at-requires Inv-loop μ-loop
 next-at-requires c κs = search needs
@@ -24,7 +25,7 @@ loop-holds : tie.Need-loop-holds Inv-loop μ-loop
 loop-holds c = search (needs, items-begin)
 
 add-next-at-2 : tie.Need-add-next-at-2 Inv-loop μ-loop
-add-next-at-2 c = search (needs, item-place-fits)
+add-next-at-2 c = search (needs, objects-fit)
 
 add-next-at-3 : tie.Need-add-next-at-3 Inv-loop μ-loop
 add-next-at-3 c = search needs
@@ -51,8 +52,16 @@ part-write-descriptor-end : tie.Need-part-write-descriptor-end Inv-loop μ-loop
 part-write-descriptor-end c = search (needs, item-end)
 
 write-descriptor-requires : tie.Need-write-descriptor-requires Inv-loop μ-loop
-write-descriptor-requires c κs =
-    ((search needs, search (needs, item-within)), (search needs, (search needs, (search needs, (search needs, (search (needs, item-spaced), (search (needs, item-short), search (needs, item-unwritten))))))))
+write-descriptor-requires c κs = (
+  (search needs, search (needs, item-within)),
+  (
+    search needs,
+    (
+      search needs,
+      (search needs, (search needs, (search (needs, item-spaced), (search (needs, item-short), search (needs, item-unwritten))))),
+    ),
+  ),
+)
 
 add-d : tie.Need-add-d Inv-loop μ-loop
 add-d c = search (needs, items-number-fits)

@@ -1,6 +1,6 @@
 -- The loop: the domains of the members before field i are written.
 use Prim.Native.Nat.{_-_}
-use Rattle.file_table.proofs.Walking.{walk-less}
+use Rattle.file_fields.proofs.Walking.{walk-less}
 use Rattle.file_table.proofs.Domains.{MembersWritten, members-begin, members-end-fits, members-end-within, members-again, members-length-kept, members-counted, members-all}
 use borrow.Author.Needs.{needs}
 use Rattle.file_table.proofs.write_members.Statement.{statement}

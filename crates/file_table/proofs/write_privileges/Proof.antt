@@ -26,15 +26,37 @@ part-write-descriptors-end : tie.Need-part-write-descriptors-end
 part-write-descriptors-end c = search needs
 
 write-descriptors-requires : tie.Need-write-descriptors-requires
-write-descriptors-requires c κs =
-    (search needs, (search needs, descriptors-unwritten (c .before .before .before .before .before .before .before .before .before .before .before .args .out .now) (c .before .before .before .before .before .before .before .before .before .before .before .pre .1 .1 .1 .0) (c .before .before .before .before .before .before .before .before .before .before .before .pre .1 .1 .1 .1) _ (c .before .before .before .before .before .before .before .before .before .before .before .pre .1 .1 .0) _ _ (c .before .before .before .write-entries .ensures)))
+write-descriptors-requires c κs = (
+  search needs,
+  (
+    search needs,
+    descriptors-unwritten (c .before .before .before .before .before .before .before .before .before .before .before
+        .args .out .now) (c .before .before .before .before .before .before .before .before .before .before .before .pre .1 .1 .1 .0)
+        (c .before .before .before .before .before .before .before .before .before .before .before .pre .1 .1 .1 .1) _
+        (c .before .before .before .before .before .before .before .before .before .before .before .pre .1 .1 .0) _ _
+        (c .before .before .before .write-entries .ensures),
+  ),
+)
 
 same-length : tie.Need-same-length
 same-length c = search needs
 
 returns : tie.Need-returns
-returns c =
-    (search needs, (privileges-written (c .before .before .before .before .before .before .before .before .before .before .before .before .before .before .args .out .now) (c .before .before .before .before .before .before .before .before .before .before .before .before .before .before .pre .1 .1 .1 .0) (c .before .before .before .before .before .before .before .before .before .before .before .before .before .before .pre .1 .1 .1 .1) _ (c .before .before .before .before .before .before .before .before .before .before .before .before .before .before .pre .1 .1 .0) _ _ (c .before .before .before .before .before .before .write-entries .ensures) _ _ (c .before .before .write-descriptors .ensures), privileges-size (c .before .before .before .before .before .before .before .before .before .before .before .before .before .before .args .out .now) (c .before .before .before .before .before .before .before .before .before .before .before .before .before .before .pre .1 .1 .1 .0) (c .before .before .before .before .before .before .before .before .before .before .before .before .before .before .pre .1 .1 .1 .1) _ (c .before .before .before .before .before .before .before .before .before .before .before .before .before .before .pre .1 .1 .0) _ _ (c .before .before .before .before .before .before .write-entries .ensures) _ _ (c .before .before .write-descriptors .ensures)))
+returns c = (
+  search needs,
+  (
+    privileges-written (c .before .before .before .before .before .before .before .before .before .before .before .before .before
+        .before .args .out .now) (c .before .before .before .before .before .before .before .before .before .before .before .before .before .before
+        .pre .1 .1 .1 .0) (c .before .before .before .before .before .before .before .before .before .before .before .before .before .before .pre .1
+        .1 .1 .1) _ (c .before .before .before .before .before .before .before .before .before .before .before .before .before .before .pre .1 .1 .0)
+        _ _ (c .before .before .before .before .before .before .write-entries .ensures) _ _ (c .before .before .write-descriptors .ensures),
+    privileges-size (c .before .before .before .before .before .before .before .before .before .before .before .before .before .before .args .out
+        .now) (c .before .before .before .before .before .before .before .before .before .before .before .before .before .before .pre .1 .1 .1 .0)
+        (c .before .before .before .before .before .before .before .before .before .before .before .before .before .before .pre .1 .1 .1 .1) _
+        (c .before .before .before .before .before .before .before .before .before .before .before .before .before .before .pre .1 .1 .0) _ _
+        (c .before .before .before .before .before .before .write-entries .ensures) _ _ (c .before .before .write-descriptors .ensures),
+  ),
+)
 
 pub write-privileges-spec : {M : Type 1} → statement M
 write-privileges-spec =

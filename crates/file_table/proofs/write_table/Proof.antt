@@ -1,5 +1,6 @@
 -- The maps, the privileges behind them, and the head before them.
-use Rattle.file_table.proofs.Whole.{objects-few, functions-few, file-bounded, subjects-ready, objects-ready, maps-long, maps-unwritten, privileges-long, privileges-unwritten, members-few, entries-few, head-unwritten, table-written}
+use Rattle.file_table.proofs.Whole.{objects-few, functions-few, file-bounded, subjects-ready, objects-ready, maps-long, maps-unwritten}
+use Rattle.file_table.proofs.Whole.{privileges-long, privileges-unwritten, members-few, entries-few, head-unwritten, table-written}
 use borrow.Author.Needs.{needs}
 use Rattle.file_table.proofs.write_table.Statement.{statement}
 use Rattle.file_table.proofs.write_table.Tie as tie
@@ -26,8 +27,24 @@ part-write-privileges-end : tie.Need-part-write-privileges-end
 part-write-privileges-end c = search needs
 
 write-privileges-requires : tie.Need-write-privileges-requires
-write-privileges-requires c κs =
-    (search (needs, objects-ready), (search (needs, subjects-ready), (search (needs, file-bounded), (search (needs, privileges-long), privileges-unwritten _ (c .before .before .before .before .before .before .before .before .before .before .before .pre .1 .1 .1 .0 .1) (c .before .before .before .before .before .before .before .before .before .before .before .pre .1 .1 .1 .0 .2) (c .before .before .before .before .before .before .before .before .before .before .before .args .table .now) (c .before .before .before .before .before .before .before .before .before .before .before .pre .1 .1 .1 .1 .0) (c .before .before .before .before .before .before .before .before .before .before .before .pre .1 .1 .1 .1 .1) _ (c .before .before .before .write-maps .ensures .1)))))
+write-privileges-requires c κs = (
+  search (needs, objects-ready),
+  (
+    search (needs, subjects-ready),
+    (
+      search (needs, file-bounded),
+      (
+        search (needs, privileges-long),
+        privileges-unwritten _ (c .before .before .before .before .before .before .before .before .before .before
+            .before .pre .1 .1 .1 .0 .1) (c .before .before .before .before .before .before .before .before .before .before .before .pre .1 .1 .1 .0 .2)
+            (c .before .before .before .before .before .before .before .before .before .before .before .args .table .now)
+            (c .before .before .before .before .before .before .before .before .before .before .before .pre .1 .1 .1 .1 .0)
+            (c .before .before .before .before .before .before .before .before .before .before .before .pre .1 .1 .1 .1 .1) _
+            (c .before .before .before .write-maps .ensures .1),
+      ),
+    ),
+  ),
+)
 
 sub-write-head : tie.Need-sub-write-head
 sub-write-head c = search needs
@@ -39,15 +56,42 @@ part-write-head-end : tie.Need-part-write-head-end
 part-write-head-end c = search needs
 
 write-head-requires : tie.Need-write-head-requires
-write-head-requires c κs =
-    ((search needs, search needs), ((members-few _ _ (c .before .before .before .before .before .before .before .write-maps .ensures .0) (c .before .before .before .before .before .before .before .before .before .before .before .before .before .before .before .pre .1 .1 .1 .0 .1) (c .before .before .before .before .before .before .before .before .before .before .before .before .before .before .before .pre .1 .1 .1 .0 .2), search needs, entries-few _ _ (c .before .before .before .write-privileges .ensures .0) (c .before .before .before .before .before .before .before .before .before .before .before .before .before .before .before .pre .1 .1 .1 .0 .1) (c .before .before .before .before .before .before .before .before .before .before .before .before .before .before .before .pre .1 .1 .1 .0 .2)), search (needs, head-unwritten)))
+write-head-requires c κs = (
+  (search needs, search needs),
+  (
+    (
+      members-few _ _ (c .before .before .before .before .before .before .before .write-maps .ensures .0)
+          (c .before .before .before .before .before .before .before .before .before .before .before .before .before .before .before .pre .1 .1 .1 .0
+          .1) (c .before .before .before .before .before .before .before .before .before .before .before .before .before .before .before .pre .1 .1 .1
+          .0 .2),
+      search needs,
+      entries-few _ _ (c .before .before .before .write-privileges .ensures .0)
+          (c .before .before .before .before .before .before .before .before .before .before .before .before .before .before .before .pre .1 .1 .1 .0
+          .1) (c .before .before .before .before .before .before .before .before .before .before .before .before .before .before .before .pre .1 .1 .1
+          .0 .2),
+    ),
+    search (needs, head-unwritten),
+  ),
+)
 
 same-length : tie.Need-same-length
 same-length c = search needs
 
 returns : tie.Need-returns
 returns c =
-    table-written _ (c .before .before .before .before .before .before .before .before .before .before .before .before .before .before .before .before .before .before .pre .1 .1 .1 .0 .1) (c .before .before .before .before .before .before .before .before .before .before .before .before .before .before .before .before .before .before .pre .1 .1 .1 .0 .2) (c .before .before .before .before .before .before .before .before .before .before .before .before .before .before .before .before .before .before .args .table .now) (c .before .before .before .before .before .before .before .before .before .before .before .before .before .before .before .before .before .before .pre .1 .1 .1 .1 .0) (c .before .before .before .before .before .before .before .before .before .before .before .before .before .before .before .before .before .before .pre .1 .1 .1 .1 .1) _ (c .before .before .before .before .before .before .before .before .before .before .write-maps .ensures .1) _ (c .before .before .before .before .before .before .write-privileges .ensures .1 .0) (c .before .before .before .before .before .before .write-privileges .ensures .1 .1) _ _ _ _ _ _ _ (c .before .before .before .before .before .before .before .before .before .before .before .before .before .before .before .before .before .before .pre .1 .0) _ _ (c .before .before .before .before .before .before .before .before .before .before .write-maps .ensures .0) (c .before .before .before .before .before .before .write-privileges .ensures .0) _ (c .before .before .write-head .ensures)
+    table-written _ (c .before .before .before .before .before .before .before .before .before .before .before .before .before .before .before
+    .before .before .before .pre .1 .1 .1 .0 .1) (c .before .before .before .before .before .before .before .before .before .before .before
+    .before .before .before .before .before .before .before .pre .1 .1 .1 .0 .2)
+    (c .before .before .before .before .before .before .before .before .before .before .before .before .before .before .before .before .before
+    .before .args .table .now) (c .before .before .before .before .before .before .before .before .before .before .before .before .before .before
+    .before .before .before .before .pre .1 .1 .1 .1 .0) (c .before .before .before .before .before .before .before .before .before .before
+    .before .before .before .before .before .before .before .before .pre .1 .1 .1 .1 .1) _
+    (c .before .before .before .before .before .before .before .before .before .before .write-maps .ensures .1) _
+    (c .before .before .before .before .before .before .write-privileges .ensures .1 .0)
+    (c .before .before .before .before .before .before .write-privileges .ensures .1 .1) _ _ _ _ _ _ _
+    (c .before .before .before .before .before .before .before .before .before .before .before .before .before .before .before .before .before
+    .before .pre .1 .0) _ _ (c .before .before .before .before .before .before .before .before .before .before .write-maps .ensures .0)
+    (c .before .before .before .before .before .before .write-privileges .ensures .0) _ (c .before .before .write-head .ensures)
 
 pub write-table-spec : {M : Type 1} → statement M
 write-table-spec =

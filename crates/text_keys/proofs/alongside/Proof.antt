@@ -7,14 +7,11 @@ use Rattle.text_keys.proofs.alongside.Tie as tie
 column-requires : tie.Need-column-requires
 column-requires c κs = search needs
 
-key-column-requires : tie.Need-key-column-requires
-key-column-requires c κs = search needs
+key-stand-requires : tie.Need-key-stand-requires
+key-stand-requires c κs = search needs
 
 returns : tie.Need-returns
 returns c = search (needs, alongside-away)
-
-key-dashed-requires : tie.Need-key-dashed-requires
-key-dashed-requires c κs = search needs
 
 dashed-requires : tie.Need-dashed-requires
 dashed-requires c κs = search needs
@@ -29,10 +26,9 @@ pub alongside-spec : {M : Type 1} → statement M
 alongside-spec =
     tie.close
     (tie.spec
+    key-stand-requires
     column-requires
-    key-column-requires
     returns
-    key-dashed-requires
     dashed-requires
     returns-2
     returns-3)

@@ -14,7 +14,8 @@ use Rattle.text_repeats.proofs.repeats_from.Statement.{statement}
 use Rattle.text_repeats.proofs.repeats_from.Tie as tie
 
 abbrev Inv-loop : tie.InvT-loop
-Inv-loop s from at₀ at = SpacedFrom s at × (repeats [] (elementsLeft s at) ≡ true → repeats [] (elementsIn s) ≡ true) × (from ≡ 0 → repeats [] (elementsLeft s at) ≡ false → repeats [] (elementsIn s) ≡ false)
+Inv-loop s from at₀ at = SpacedFrom s at × (repeats [] (elementsLeft s at) ≡ true → repeats [] (elementsIn s) ≡ true) ×
+    (from ≡ 0 → repeats [] (elementsLeft s at) ≡ false → repeats [] (elementsIn s) ≡ false)
 
 abbrev μ-loop : tie.MeasureT-loop
 μ-loop s from at₀ at = length s + 3 - at

@@ -1,4 +1,5 @@
--- A name that has a number is known; any other goes in.
+-- A name whose way ends at a number is known; any other goes in where its way ended.
+use Rattle.file_index.proofs.Steps.{word-before}
 use Rattle.file_names.proofs.Entering.{known-told, new-told, put-told}
 use borrow.Author.Needs.{needs}
 use Rattle.file_names.proofs.indexes.enter.Statement.{statement}
@@ -7,8 +8,14 @@ use Rattle.file_names.proofs.indexes.enter.Tie as tie
 part-requires : tie.Need-part-requires
 part-requires c κs = search needs
 
-number-in-requires : tie.Need-number-in-requires
-number-in-requires c κs = search needs
+slice-read-hash : tie.Need-slice-read-hash
+slice-read-hash c = search needs
+
+hash-requires : tie.Need-hash-requires
+hash-requires c κs = search needs
+
+way-end-requires : tie.Need-way-end-requires
+way-end-requires c κs = search needs
 
 same-length : tie.Need-same-length
 same-length c = search needs
@@ -16,14 +23,8 @@ same-length c = search needs
 returns : tie.Need-returns
 returns c = search (needs, known-told)
 
-slice-read-hash : tie.Need-slice-read-hash
-slice-read-hash c = search needs
-
-hash-requires : tie.Need-hash-requires
-hash-requires c κs = search needs
-
 insert-requires : tie.Need-insert-requires
-insert-requires c κs = search needs
+insert-requires c κs = (search needs, search (needs, word-before))
 
 same-length-2 : tie.Need-same-length-2
 same-length-2 c = search needs
@@ -36,11 +37,11 @@ enter-spec =
     tie.close
     (tie.spec
     part-requires
-    number-in-requires
-    same-length
-    returns
     slice-read-hash
     hash-requires
+    way-end-requires
+    same-length
+    returns
     insert-requires
     same-length-2
     returns-2)

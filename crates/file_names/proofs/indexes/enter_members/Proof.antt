@@ -7,13 +7,15 @@ use Rattle.text_lists.specs.Walk.{SpacedFrom}
 use Rattle.text_lists.proofs.Walk.{found-less, spaced-found}
 use Rattle.file_fields.specs.Fields.{fieldAt}
 use Rattle.file_names.specs.Naming.{namesTo}
-use Rattle.file_names.proofs.Entering.{Walked, Placed, no-members, walk-begins, begins-placed, begins-spaced, walk-ends, walk-room, walk-fits, start-fits, at-fits, end-fits, walk-twice, walk-on, stays-placed}
+use Rattle.file_names.proofs.Entering.{Walked, Placed, no-members, walk-begins, begins-placed, begins-spaced, walk-ends, walk-room, walk-fits}
+use Rattle.file_names.proofs.Entering.{start-fits, at-fits, end-fits, walk-twice, walk-on, stays-placed}
 use borrow.Author.Needs.{needs}
 use Rattle.file_names.proofs.indexes.enter_members.Statement.{statement}
 use Rattle.file_names.proofs.indexes.enter_members.Tie as tie
 
 abbrev Inv-loop : tie.InvT-loop
-Inv-loop t list i place ix₀ n s start names₀ at₀ ix names at = SpacedFrom s at × Placed t s start at × (length ix ≡ length ix₀) × Walked t ix n names (namesTo (membersNamed place) t list i) (membersNamed place (fieldAt t list i)) s at
+Inv-loop t list i place ix₀ n s start names₀ at₀ ix names at = SpacedFrom s at × Placed t s start at × (length ix ≡ length ix₀) × Walked t ix n names
+    (namesTo (membersNamed place) t list i) (membersNamed place (fieldAt t list i)) s at
 
 abbrev μ-loop : tie.MeasureT-loop
 μ-loop t list i place ix₀ n s start names₀ at₀ ix names at = length s + 3 - at

@@ -13,7 +13,8 @@ use Rattle.file_names.proofs.indexes.index_all.Statement.{statement}
 use Rattle.file_names.proofs.indexes.index_all.Tie as tie
 
 abbrev Inv-loop : tie.InvT-loop
-Inv-loop t list n naming ix₀ names₀ i₀ ix names i = (i ≤ n) × (length ix ≡ length ix₀) × Index t ix names (namesTo (named naming) t list i) × (repeated (named naming) (namesTo (named naming) t list i) (between t list i n) ≡ repeated (named naming) [] (between t list 0 n))
+Inv-loop t list n naming ix₀ names₀ i₀ ix names i = (i ≤ n) × (length ix ≡ length ix₀) × Index t ix names (namesTo (named naming) t list i) ×
+    (repeated (named naming) (namesTo (named naming) t list i) (between t list i n) ≡ repeated (named naming) [] (between t list 0 n))
 
 abbrev μ-loop : tie.MeasureT-loop
 μ-loop t list n naming ix₀ names₀ i₀ ix names i = n - i
@@ -22,7 +23,13 @@ loop-holds : tie.Need-loop-holds Inv-loop μ-loop
 loop-holds c = (search needs, search needs, search (needs, no-names), search (needs, line-first))
 
 enter-field-requires : tie.Need-enter-field-requires Inv-loop μ-loop
-enter-field-requires c κs = (search (needs, its-room), (search (needs, its-spacing), (search needs, search (needs, field-room (named (c .before .before .before .before .before .before .args .naming))))))
+enter-field-requires c κs = (
+  search (needs, its-room),
+  (
+    search (needs, its-spacing),
+    (search needs, search (needs, field-room (named (c .before .before .before .before .before .before .args .naming)))),
+  ),
+)
 
 enum-told : tie.Need-enum-told Inv-loop μ-loop
 enum-told c = search needs
@@ -46,7 +53,19 @@ loop-less : tie.Need-loop-less Inv-loop μ-loop
 loop-less c = search needs
 
 loop-again : tie.Need-loop-again Inv-loop μ-loop
-loop-again c = (search needs, search needs, index-on (named (c .before .before .before .before .before .before .before .before .before .before .before .before .args .naming)) _ _ _ _ (c .before .before .before .before .before .before .before .loop-test .taken) _ _ (c .before .before .before .before .before .enter-field .ensures .0) _ (search needs), search (needs, line-on (named (c .before .before .before .before .before .before .before .before .before .before .before .before .args .naming)), c .before .before .before .before .before .enter-field .ensures .0))
+loop-again c = (
+  search needs,
+  search needs,
+  index-on (named (c .before .before .before .before .before .before .before .before .before .before
+      .before .before .args .naming)) _ _ _ _ (c .before .before .before .before .before .before .before .loop-test .taken) _ _
+      (c .before .before .before .before .before .enter-field .ensures .0) _ (search needs),
+  search (
+    needs,
+    line-on (named (c .before .before .before .before .before .before .before .before .before .before .before .before .args .naming)),
+    c
+        .before .before .before .before .before .enter-field .ensures .0,
+  ),
+)
 
 same-length-2 : tie.Need-same-length-2 Inv-loop μ-loop
 same-length-2 c = search needs

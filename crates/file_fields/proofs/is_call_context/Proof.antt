@@ -1,8 +1,8 @@
 -- The three places.
-use Rattle.file_limits.proofs.Laws.{one-of-three}
+use Rattle.file_fields.proofs.Places.{one-of-three}
 use borrow.Author.Needs.{needs}
-use Rattle.file_limits.proofs.is_call_context.Statement.{statement}
-use Rattle.file_limits.proofs.is_call_context.Tie as tie
+use Rattle.file_fields.proofs.is_call_context.Statement.{statement}
+use Rattle.file_fields.proofs.is_call_context.Tie as tie
 
 returns : tie.Need-returns
 returns c = search (needs, one-of-three)

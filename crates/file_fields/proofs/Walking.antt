@@ -1,15 +1,14 @@
 -- The stretches one after the other: each begins at a field of its place and ends at the next one, which the walk stands at then.
-use mathlib.Core.Path.{_≡_, refl, sym, ap, _∙_}
+use mathlib.Core.Path.{_≡_, refl}
 use mathlib.Core.Logic.{⊎-elim}
 use mathlib.Core.List.{List, [], _∷_}
 use Prim.Native.Nat.{ℕ, zero, suc, _+_, _-_, _<_, _≤_}
 use native.Mathlib.Omega.{arith}
 use borrow.Author.Tests.{eq-eqb}
-use Rattle.paper.specs.Page.{Field}
 use Rattle.paper.specs.Entries.{stretchesFrom}
 use Rattle.laws.proofs.Tests.{le-or-lt}
 use Rattle.file_fields.specs.Fields.{placeIn, between, nextAt}
 use Rattle.file_fields.proofs.Between.{between-none, next-from, next-within, next-at-place, stretches-next, stretch-more}
 
 -- number i is that of a field of the place, or the end
 pub record Walked (list : List ℕ) (p i to : ℕ) : Type 0 where
@@ -26,15 +25,16 @@ unfolding nextAt
 next-nothing list p i to h = let e : to - i ≡ 0 = omega arith in rw e refl
 
 module _ (list : List ℕ) (p from to next : ℕ) where
+  -- the walk stands at a field of the place, or at the end
+  pub walk-stands : next ≡ nextAt list p from (to - from) → nextAt list p next (to - next) ≡ next
+  walk-stands e =
+      ⊎-elim
+      (λ (k : to ≤ next). next-nothing list p next to k)
+      (λ (k : next < to). next-itself list p next (to - next) (rw (← e) at (next-at-place [] list p from to (rw e at k))))
+      (le-or-lt to next)
+
   pub walked : from ≤ to → next ≡ nextAt list p from (to - from) → Walked list p next to
-  walked h e = record {
-    within = rw e (next-within [] list p from to h);
-    stands =
-        ⊎-elim
-        (λ (k : to ≤ next). next-nothing list p next to k)
-        (λ (k : next < to). next-itself list p next (to - next) (rw (← e) at (next-at-place [] list p from to (rw e at k))))
-        (le-or-lt to next);
-  }
+  walked h e = record { within = rw e (next-within [] list p from to h); stands = walk-stands e }
 
   -- before the first stretch there is none
   pub stretches-first : (t : List ℕ) → from ≤ to → next ≡ nextAt list p from (to - from) → stretchesFrom p (between t list from to) ≡ stretchesFrom p (between t list next to)

@@ -1,0 +1,31 @@
+-- How the filled text looks, and what of the file it keeps (document 01, "The page" and "A file, filled out").
+use mathlib.Core.Path.{_≡_}
+use mathlib.Core.List.{List}
+use mathlib.Core.Bool.{true, not}
+use Prim.Native.Nat.{ℕ, _-_, _≤_}
+use lib.Dec.{eqb}
+use lib.ListN.{length, getD}
+use Rattle.paper.specs.Common.{allOf}
+use Rattle.paper.specs.Text.{lineFeed, space, lines, skipped}
+use Rattle.paper.specs.Listing.{objectName, objectMembers, subjectName, subjectMembers}
+use Rattle.paper.specs.Page.{Field}
+use Rattle.paper.specs.Rules.{domainsAt, identifiersAt}
+
+-- the last byte of a stretch; where there is none, 0, which is no byte of a page
+unfoldable pub lastByte : List ℕ → ℕ
+lastByte bs = getD bs (length bs - 1) 0
+
+-- "no skipped line, no trailing space, ends with LF": every line ends with LF, and so the last one
+pub record Clean (t : List ℕ) : Type 0 where
+  pub some : 1 ≤ length t
+  pub feed : lastByte t ≡ lineFeed
+  pub ended : allOf (λ l. l .ended) (lines t) ≡ true
+  pub counted : allOf (λ l. not (skipped (l .text))) (lines t) ≡ true
+  pub trimmed : allOf (λ l. not (eqb (lastByte (l .text)) space)) (lines t) ≡ true
+
+-- two files have "the names and identifiers of the maps in the same order", so that "numbers of domains, functions and objects stay"
+pub record SameNames (fs gs : List Field) : Type 0 where
+  pub objectDomains : domainsAt objectName gs ≡ domainsAt objectName fs
+  pub subjectDomains : domainsAt subjectName gs ≡ domainsAt subjectName fs
+  pub objects : identifiersAt objectMembers gs ≡ identifiersAt objectMembers fs
+  pub functions : identifiersAt subjectMembers gs ≡ identifiersAt subjectMembers fs
