@@ -30,7 +30,7 @@ enum {
     DOVETENON_TABLE_WORDS = 16384,  /* of a table, at least */
     DOVETENON_FRAMES = 64,          /* of a stack, at most */
     DOVETENON_WITNESS_WORDS = 32,   /* of a witness, at least */
-    DOVETENON_TEXT_BYTES = 65536    /* of a text, at most */
+    DOVETENON_TEXT_BYTES = 65536    /* of a text, and of a filled one, at most */
 };
 
 /* The numbers of refusals: class 1 of every answer. */
@@ -50,6 +50,8 @@ enum {
     DOVETENON_STACK = 21,             /* stack of 0 or over 64 frames */
     DOVETENON_ALLOCATION_STACK = 22,  /* allocation stack over 64 frames */
     DOVETENON_OPERATION = 23,         /* operation not 1 to 4 */
+    DOVETENON_OUTPUT_TOO_SHORT = 30,  /* output shorter than the filled text */
+    DOVETENON_FILLED_TOO_LONG = 31,   /* filled text over 65,536 bytes */
     DOVETENON_WITNESS_TOO_SHORT = 40  /* witness under 32 words */
 };
 
@@ -238,6 +240,49 @@ static inline uint16_t dovetenon_reading_number(uint64_t reading)
 static inline uint32_t dovetenon_reading_line(uint64_t reading)
 {
     return (uint32_t)(reading >> 32);
+}
+
+/* ---- The filler */
+
+/* Writes a policy text with every default filled in and without its skipped
+   lines. What it writes is read into the same table.
+
+   Refused with 2 to 11 as dovetenon_read does, then 31, then 30.
+
+   On refusal no byte of the output changes. When written, the filled text
+   stands at its front; bytes past the filled text never change.
+
+   It wants 1 MB of stack. */
+uint64_t dovetenon_fill(const uint8_t *text, size_t text_len,
+                        uint8_t *out, size_t out_len);
+
+/* The classes of a filling, and what else it tells. */
+enum {
+    DOVETENON_FILLING_REFUSED = 1,  /* the number of the refusal, and its line */
+    DOVETENON_FILLING_WRITTEN = 2   /* the size of the filled text */
+};
+
+static inline uint32_t dovetenon_filling_class(uint64_t filling)
+{
+    return (uint32_t)(filling >> 16 & 0xFFFF);
+}
+
+/* Of a filling that is refused. */
+static inline uint16_t dovetenon_filling_number(uint64_t filling)
+{
+    return (uint16_t)(filling & 0xFFFF);
+}
+
+/* The line at fault, from 1; 0 for refusals 2, 30 and 31, which have none. */
+static inline uint32_t dovetenon_filling_line(uint64_t filling)
+{
+    return (uint32_t)(filling >> 32);
+}
+
+/* Of a filling that is written: how many bytes of the output are the text. */
+static inline uint32_t dovetenon_filling_size(uint64_t filling)
+{
+    return (uint32_t)(filling >> 32);
 }
 
 #ifdef __cplusplus

@@ -1,6 +1,7 @@
 /* The worked example of README.md, from C: its text read into a table, what
    becomes of seven events under that table, the overlap report of it and of the
-   table of a longer text, and a text without its last byte.
+   table of a longer text, and a text without its last byte; then its text filled
+   in, and not filled in where too few bytes are lent.
 
      cc -std=c11 -Iinclude include/example.c target/staticlib/libexport.a */
 #include "dovetenon.h"
@@ -99,6 +100,17 @@ static void read_text(const char *bytes, size_t length)
     tell(dovetenon_read((const uint8_t *)bytes, length, table, DOVETENON_TABLE_WORDS));
 }
 
+/* Writes the text with every default filled in, if it has room. */
+static void fill_text(size_t room)
+{
+    static uint8_t filled[DOVETENON_TEXT_BYTES];
+    uint64_t filling = dovetenon_fill((const uint8_t *)text, sizeof text - 1, filled, room);
+    if (dovetenon_filling_class(filling) == DOVETENON_FILLING_WRITTEN)
+        fwrite(filled, 1, dovetenon_filling_size(filling), stdout);
+    else
+        printf("refused, %d, line %d\n", dovetenon_filling_number(filling), (int)dovetenon_filling_line(filling));
+}
+
 int main(void)
 {
     const uint16_t in_main[] = {MAIN};
@@ -123,5 +135,8 @@ int main(void)
     tell(dovetenon_page((const uint8_t *)text, sizeof text - 2));
     read_text(text, sizeof text - 2);
     judge("add returns to main", DOVETENON_RETURN, MAIN, in_add, 2);
+
+    fill_text(DOVETENON_TEXT_BYTES);
+    fill_text(100);
     return 0;
 }

@@ -35,6 +35,7 @@
 #pragma weak dovetenon_overlap
 #pragma weak dovetenon_page
 #pragma weak dovetenon_read
+#pragma weak dovetenon_fill
 
 /* Of the C library, for x86-64 Linux. Its headers are not at hand everywhere. */
 struct timespec { long seconds, nanoseconds; };
@@ -47,7 +48,7 @@ void *memcpy(void *to, const void *from, size_t length);
 size_t strlen(const char *text);
 _Noreturn void _exit(int status);
 
-enum { WELL_FORMED, JUDGE, JUDGE_KNOWN, OVERLAP, PAGE, READ, FUNCTIONS };
+enum { WELL_FORMED, JUDGE, JUDGE_KNOWN, OVERLAP, PAGE, READ, FILL, FUNCTIONS };
 
 static const struct {
     const char *name;
@@ -59,6 +60,7 @@ static const struct {
     [OVERLAP] = {"overlap", (void (*)(void))dovetenon_overlap},
     [PAGE] = {"page", (void (*)(void))dovetenon_page},
     [READ] = {"read", (void (*)(void))dovetenon_read},
+    [FILL] = {"fill", (void (*)(void))dovetenon_fill},
 };
 
 static _Noreturn void fail(const char *fault)
@@ -213,9 +215,12 @@ static uint64_t answer(const struct call *call)
                                  words(slot[1]), words_len(slot[1]));
     case PAGE:
         return dovetenon_page(text(slot[0]), text_len(slot[0]));
-    default:
+    case READ:
         return dovetenon_read(text(slot[0]), text_len(slot[0]),
                               words(slot[1]), words_len(slot[1]));
+    default:
+        return dovetenon_fill(text(slot[0]), text_len(slot[0]),
+                              text(slot[1]), text_len(slot[1]));
     }
 }
 

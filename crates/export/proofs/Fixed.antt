@@ -2,8 +2,8 @@
 use mathlib.Core.Path.{_≡_, sym, ap, _∙_}
 use mathlib.Core.List.{List}
 use Prim.Native.Nat.{ℕ}
-use Rattle.paper.specs.Answers.{readingPacked, reportPacked}
-use Rattle.paper.specs.Promises.{readAnswer, readLeaves}
+use Rattle.paper.specs.Answers.{readingPacked, fillingPacked, reportPacked}
+use Rattle.paper.specs.Promises.{readAnswer, readLeaves, fillAnswer, fillLeaves}
 use Rattle.overlap.proofs.Agree.{reports-fixed}
 use Rattle.export.specs.Told.{ReportedAs}
 
@@ -15,6 +15,12 @@ one-answer e e′ = e ∙ sym e′
 pub one-reading : (text table left left′ : List ℕ) (r r′ : ℕ)
     → (r ≡ readingPacked (readAnswer text table)) × (left ≡ readLeaves text table) → (r′ ≡ readingPacked (readAnswer text table)) × (left′ ≡ readLeaves text table) → (r ≡ r′) × (left ≡ left′)
 one-reading text table left left′ r r′ a b = (one-answer (a .0) (b .0), one-answer (a .1) (b .1))
+
+-- the filler: the answer and every byte of the output
+pub one-filling : (text out left left′ : List ℕ) (r r′ : ℕ)
+    → (r ≡ fillingPacked (fillAnswer text out)) × (left ≡ fillLeaves text out) → (r′ ≡ fillingPacked (fillAnswer text out)) × (left′ ≡ fillLeaves text out)
+    → (r ≡ r′) × (left ≡ left′)
+one-filling text out left left′ r r′ a b = (one-answer (a .0) (b .0), one-answer (a .1) (b .1))
 
 -- the report: the answer and every word of the witness
 pub one-report : (table old new new′ : List ℕ) (r r′ : ℕ) → ReportedAs table old new r → ReportedAs table old new′ r′ → (r ≡ r′) × (new ≡ new′)

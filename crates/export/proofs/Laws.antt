@@ -8,7 +8,9 @@ use Rattle.paper.specs.declared.Report.{Report}
 use Rattle.paper.specs.declared.Report.the-variants.{Clear, Clash, Unreported}
 use Rattle.paper.specs.declared.Reading.{Reading}
 use Rattle.paper.specs.declared.Reading.the-variants.{Accepted, Unread}
-use Rattle.paper.specs.Answers.{clashRest, packed, readingPacked, verdictPacked, reportPacked, ReportFits}
+use Rattle.paper.specs.declared.Filling.{Filling}
+use Rattle.paper.specs.declared.Filling.the-variants.{Written, Unfilled}
+use Rattle.paper.specs.Answers.{clashRest, packed, readingPacked, fillingPacked, verdictPacked, reportPacked, ReportFits}
 
 -- ---- parts to a number
 
@@ -55,6 +57,15 @@ module _ (a : Reading) (r : ℕ) where
   unfolding readingPacked
   packs-accepted e h = rw e h
 
+module _ (a : Filling) (r : ℕ) where
+  pub packs-unfilled : (number line : ℕ) → a ≡ Unfilled number line → r ≡ packed (record { class = 1; value = number; rest = line }) → r ≡ fillingPacked a
+  unfolding fillingPacked
+  packs-unfilled number line e h = rw e h
+
+  pub packs-written : (size : ℕ) → a ≡ Written size → r ≡ packed (record { class = 2; value = 0; rest = size }) → r ≡ fillingPacked a
+  unfolding fillingPacked
+  packs-written size e h = rw e h
+
 module _ (a : Report) (r : ℕ) where
   pub packs-unreported : (number : ℕ) → a ≡ Unreported number → r ≡ packed (record { class = 1; value = number; rest = 0 }) → r ≡ reportPacked a
   unfolding reportPacked
@@ -91,3 +102,6 @@ packs-verdict v answer r p e = p ∙ ap verdictPacked e
 
 pub packs-reading : (a answer : Reading) (r : ℕ) → r ≡ readingPacked a → a ≡ answer → r ≡ readingPacked answer
 packs-reading a answer r p e = p ∙ ap readingPacked e
+
+pub packs-filling : (a answer : Filling) (r : ℕ) → r ≡ fillingPacked a → a ≡ answer → r ≡ fillingPacked answer
+packs-filling a answer r p e = p ∙ ap fillingPacked e

@@ -15,3 +15,6 @@ pub const CLEAR: u16 = 3;
 
 // Of a reading.
 pub const ACCEPTED: u16 = 2;
+
+// Of a filling.
+pub const WRITTEN: u16 = 2;

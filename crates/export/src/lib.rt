@@ -3,14 +3,15 @@
 pub mod class;
 
 use judge::Ids;
+use paper::Filling;
 use paper::Reading;
 use paper::Report;
 use paper::Verdict;
 ghost use mathlib.Core.Path.{_≡_};
 ghost use Prim.Native.Nat.{_≤_, _<_};
 ghost use Rattle.paper.specs.Table.{wellFormed, policyIn};
-ghost use Rattle.paper.specs.Promises.{textPage, readingOf, readAnswer, readLeaves, judgeEvent, judgeAnswer};
-ghost use Rattle.paper.specs.Answers.{clashRest, packed, readingPacked, verdictPacked, reportPacked, ReportFits};
+ghost use Rattle.paper.specs.Promises.{textPage, readingOf, readAnswer, readLeaves, fillAnswer, fillLeaves, judgeEvent, judgeAnswer};
+ghost use Rattle.paper.specs.Answers.{clashRest, packed, readingPacked, fillingPacked, verdictPacked, reportPacked, ReportFits};
 ghost use Rattle.export.specs.Told.{ReportedAs};
 
 // Where the class of an answer begins, and the rest: bits 16 and 32.
@@ -159,4 +160,21 @@ pub extern "C" fn dovetenon_read(text: &[u8], table: &mut [u16]) -> u64
     ensures { λ r. ⌜ now (table .exit) ≡ readLeaves (now (text .entry)) (now (table .entry)) ⌝ }
 {
     packed_reading(file_read::read(text, table))
+}
+
+fn packed_filling(filling: Filling) -> u64
+    ensures { λ r. ⌜ r ≡ fillingPacked filling ⌝ }
+{
+    match filling {
+        Filling::Unfilled { number, line } => whole(class::REFUSED, number, line),
+        Filling::Written { size } => whole(class::WRITTEN, 0, size),
+    }
+}
+
+#[no_mangle]
+pub extern "C" fn dovetenon_fill(text: &[u8], out: &mut [u8]) -> u64
+    ensures { λ r. ⌜ r ≡ fillingPacked (fillAnswer (now (text .entry)) (now (out .entry))) ⌝ }
+    ensures { λ r. ⌜ now (out .exit) ≡ fillLeaves (now (text .entry)) (now (out .entry)) ⌝ }
+{
+    packed_filling(file_fill::fill(text, out))
 }

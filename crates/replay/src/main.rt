@@ -6,7 +6,7 @@ use export::class;
 const OUT: i32 = 1;
 
 // More bytes than a file has, more words than a table has.
-const FILE_BYTES: usize = 160000;
+const FILE_BYTES: usize = 300000;
 
 const TABLE_WORDS: usize = 65536;
 
@@ -20,6 +20,11 @@ const WITNESS_WORDS: usize = 64;
 
 // More words than are lent for a table that is read into.
 const LENT_WORDS: usize = 16640;
+
+// What bytes lent to be written hold before the call, and more bytes than are lent for a filled text.
+const UNTOUCHED_BYTE: u8 = 7;
+
+const LENT_BYTES: usize = 65600;
 
 // The next byte of a file; past its end, 0.
 fn byte(file: &[u8], at: &mut usize) -> u8 {
@@ -292,6 +297,43 @@ fn replay_reading(file: &[u8], at: &mut usize, tally: Tally) -> Tally {
     tally.with(false)
 }
 
+// The text filled out with so many bytes of the output lent.
+fn fill_out(text: &[u8], out: &mut [u8], lent: usize) -> u64 {
+    let base: usize = 0;
+    if lent <= out.len() {
+        return export::dovetenon_fill(text, &mut out[base..lent]);
+    }
+    export::dovetenon_fill(text, out)
+}
+
+// An output holds these bytes, and behind them what it held before.
+fn holds(out: &[u8], written: &[u8]) -> bool {
+    let untouched = [UNTOUCHED_BYTE; LENT_BYTES];
+    let mut at: usize = 0;
+    let front = stretch(out, &mut at, written.len());
+    let behind = stretch(out, &mut at, LENT_BYTES);
+    if text_bytes::same(front, written) {
+        return text_bytes::is_front_of(behind, &untouched);
+    }
+    false
+}
+
+// A text, the answer to it, and the bytes that are written.
+fn replay_filling(file: &[u8], at: &mut usize, tally: Tally) -> Tally {
+    let mut out = [UNTOUCHED_BYTE; LENT_BYTES];
+    let n = long(file, at) as usize;
+    let text = stretch(file, at, n);
+    let lent = long(file, at) as usize;
+    let answer = fill_out(text, &mut out, lent);
+    let same = answer == wide(file, at);
+    let size = long(file, at) as usize;
+    let written = stretch(file, at, size);
+    if holds(&out, written) {
+        return tally.with(same);
+    }
+    tally.with(false)
+}
+
 // What the cases of a file are.
 enum Cases {
     Trials,
@@ -299,6 +341,7 @@ enum Cases {
     Reports,
     Pages,
     Readings,
+    Fillings,
 }
 
 fn replay_case(cases: Cases, file: &[u8], at: &mut usize, tally: Tally) -> Tally {
@@ -308,6 +351,7 @@ fn replay_case(cases: Cases, file: &[u8], at: &mut usize, tally: Tally) -> Tally
         Cases::Reports => replay_report(file, at, tally),
         Cases::Pages => replay_page(file, at, tally),
         Cases::Readings => replay_reading(file, at, tally),
+        Cases::Fillings => replay_filling(file, at, tally),
     }
 }
 
@@ -366,5 +410,11 @@ fn main() {
         b"read.cases",
         Cases::Readings,
         b" stored texts read into tables, ",
+    );
+    replay(
+        &mut room,
+        b"fill.cases",
+        Cases::Fillings,
+        b" stored texts filled out, ",
     );
 }

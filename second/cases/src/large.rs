@@ -35,6 +35,7 @@ pub fn texts() -> &'static [Large] {
             ("one bucket", patterned(&one_bucket()), 0),
             ("one hash", patterned(&one_hash()), 0),
             ("one hash, short names", patterned(&one_hash_short()), 0),
+            ("one hash, alike at both ends", patterned(&alike()), 0),
         ];
         let large = |(name, text, number): (_, String, _)| Large {
             name,
@@ -57,9 +58,10 @@ fn front(functions: &[String]) -> String {
 /// patterns. Elements are spread over all functions.
 fn patterned(functions: &[String]) -> String {
     let mut text = front(functions);
-    // A step without a common factor with 1,024 meets every function; each
-    // round begins one further on, so that no two patterns are alike.
-    let function = |place: usize| functions[(place * 619 + place / MEMBERS) % MEMBERS].as_str();
+    // A step without a common factor with their number meets every function;
+    // each round begins one further on, so that no two patterns are alike.
+    let count = functions.len();
+    let function = |place: usize| functions[(place * 619 + place / count) % count].as_str();
     let mut elements = (0..).map(function);
     let mut pattern = || {
         let some: Vec<&str> = elements.by_ref().take(ELEMENTS).collect();
@@ -338,6 +340,16 @@ fn one_hash_short() -> Vec<String> {
         String::from_utf8([&six[..], &three].concat()).ok()
     };
     (0..1 << 24).filter_map(name).take(MEMBERS).collect()
+}
+
+/// Fewer, that agree in many first and in many last bytes besides: whichever
+/// way names are compared, it takes long to tell two of them apart.
+fn alike() -> Vec<String> {
+    let (first, last) = ("a".repeat(55), "b".repeat(50));
+    let short = one_hash_short().into_iter().take(280);
+    short
+        .map(|name| format!("f|{first}{}{last}", &name[2..]))
+        .collect()
 }
 
 /// The three bytes that bring a hash to 0, if an identifier may have them: the

@@ -5,8 +5,8 @@
 
 use crate::dice::Dice;
 use crate::events::{self, OwnEvent};
-use crate::{readings, tables, texts};
-use second::{decode, first_fault, judge, overlap, read, Refusal, TABLE_WORDS};
+use crate::{fillings, readings, tables, texts};
+use second::{decode, fill, filler, first_fault, judge, overlap, read, Refusal, TABLE_WORDS};
 
 /// The codes of the trials' operations.
 const READ: u16 = 1;
@@ -16,17 +16,19 @@ const RETURN: u16 = 4;
 /// The seed of all stored cases.
 const SEED: u64 = 2_026;
 
-/// What each word of a table holds before it is read into.
-pub const UNTOUCHED: u16 = 7;
+/// What each word of a table holds before it is read into, and each byte of an
+/// output before it is written.
+pub const UNTOUCHED: u8 = 7;
 
 /// Each file's name and its bytes.
-pub fn files() -> [(&'static str, Vec<u8>); 5] {
+pub fn files() -> [(&'static str, Vec<u8>); 6] {
     [
         ("trials.cases", trials()),
         ("judge.cases", judge_cases()),
         ("overlap.cases", overlap_cases()),
         ("page.cases", page_cases()),
         ("read.cases", read_cases()),
+        ("fill.cases", fill_cases()),
     ]
 }
 
@@ -40,6 +42,12 @@ fn put_u32(out: &mut Vec<u8>, number: u32) {
 
 fn put_u64(out: &mut Vec<u8>, number: u64) {
     out.extend_from_slice(&number.to_le_bytes());
+}
+
+/// A length in thirty-two bits, then the bytes.
+fn put_bytes(out: &mut Vec<u8>, bytes: &[u8]) {
+    put_u32(out, bytes.len() as u32);
+    out.extend_from_slice(bytes);
 }
 
 /// A length in sixteen bits, then the words.
@@ -182,8 +190,7 @@ fn page_cases() -> Vec<u8> {
             1 => b"\n".to_vec(),
             _ => short_text(&mut dice),
         };
-        put_u32(&mut out, text.len() as u32);
-        out.extend_from_slice(&text);
+        put_bytes(&mut out, &text);
         put_u64(&mut out, Refusal::answer(first_fault(&text)).packed());
     }
     out
@@ -194,14 +201,28 @@ fn read_cases() -> Vec<u8> {
     let mut out = Vec::new();
     put_u32(&mut out, all.len() as u32);
     for (text, room) in all {
-        let mut table = vec![UNTOUCHED; room];
+        let mut table = vec![UNTOUCHED.into(); room];
         let answer = Refusal::answer(read(&text, &mut table).err());
-        put_u32(&mut out, text.len() as u32);
-        out.extend_from_slice(&text);
+        put_bytes(&mut out, &text);
         put_u16(&mut out, room as u16);
         put_u64(&mut out, answer.packed());
         // Nothing is written into a table that is too short.
         put_table(&mut out, table.get(..TABLE_WORDS).unwrap_or_default());
+    }
+    out
+}
+
+fn fill_cases() -> Vec<u8> {
+    let all = fillings::all(SEED + 4);
+    let mut out = Vec::new();
+    put_u32(&mut out, all.len() as u32);
+    for (text, room) in all {
+        let mut output = vec![UNTOUCHED; room];
+        let filling = fill(&text, &mut output);
+        put_bytes(&mut out, &text);
+        put_u32(&mut out, room as u32);
+        put_u64(&mut out, filler::answer(filling).packed());
+        put_bytes(&mut out, &output[..filling.unwrap_or(0)]);
     }
     out
 }

@@ -1,8 +1,8 @@
 //! The large texts are what they are said to be.
 
-use cases::large::{bucket, hash, texts};
+use cases::large::{bucket, hash, texts, Large};
 use second::policy::Element;
-use second::{policy_of, Policy};
+use second::{filled, policy_of, Policy};
 use std::collections::HashSet;
 
 fn text(name: &str) -> &'static [u8] {
@@ -27,6 +27,12 @@ fn large_texts_are_answered_as_said() {
         let length = large.text.len();
         assert!((28_000..=65_536).contains(&length), "{}", large.name);
     }
+}
+
+#[test]
+fn five_of_them_fill_out_to_too_much() {
+    let is_long = |large: &&Large| filled(&large.text).is_ok_and(|filled| filled.len() > 65_536);
+    assert_eq!(texts().iter().filter(is_long).count(), 5);
 }
 
 fn elements(policy: &Policy) -> Vec<Element> {
@@ -54,7 +60,12 @@ fn they_have_much_of_one_thing() {
 
 #[test]
 fn those_against_the_hash_share_it() {
-    for name in ["one bucket", "one hash", "one hash, short names"] {
+    for (name, count) in [
+        ("one bucket", 1_024),
+        ("one hash", 1_024),
+        ("one hash, short names", 1_024),
+        ("one hash, alike at both ends", 280),
+    ] {
         let text = text(name);
         let text = String::from_utf8(text.to_vec()).unwrap();
         let line = text
@@ -66,7 +77,7 @@ fn those_against_the_hash_share_it() {
             .trim_end_matches(']')
             .split(", ");
         let hashes: Vec<u32> = names.map(|name| hash(name.as_bytes())).collect();
-        assert_eq!(hashes.len(), 1_024);
+        assert_eq!(hashes.len(), count);
         assert!(hashes.iter().all(|&hash| bucket(hash) == bucket(hashes[0])));
         let apart = hashes.iter().collect::<HashSet<_>>().len();
         assert_eq!(apart == 1, name != "one bucket");

@@ -45,6 +45,11 @@ fn show(name: &str, mix: &Mix, needed: &[&str]) {
     }
 }
 
+/// The numbers that a filler answers with, 0 where it writes.
+const FILLINGS: [&str; 13] = [
+    "0", "2", "3", "4", "5", "6", "7", "8", "9", "10", "11", "30", "31",
+];
+
 #[test]
 fn texts_are_answered_and_filling_keeps_the_meaning() {
     let (mut mix, mut fills) = (Mix::new(), Mix::new());
@@ -71,13 +76,7 @@ fn texts_are_answered_and_filling_keeps_the_meaning() {
         &mix,
         &["0", "2", "3", "4", "5", "6", "7", "8", "9", "10", "11"],
     );
-    show(
-        "fill",
-        &fills,
-        &[
-            "0", "2", "3", "4", "5", "6", "7", "8", "9", "10", "11", "30", "31",
-        ],
-    );
+    show("fill", &fills, &FILLINGS);
 }
 
 /// An accepted text: its table is well formed, and filling keeps all.
@@ -511,6 +510,27 @@ fn the_quick_reader_answers_alike() {
         &mix,
         &["0", "1", "2", "3", "4", "5", "6", "7", "8", "9", "10", "11"],
     );
+}
+
+/// The quick filler answers as the plain one does, and leaves the same bytes.
+#[test]
+fn the_quick_filler_answers_alike() {
+    let mut mix = Mix::new();
+    each_text(|dice, text| {
+        let size = filled(text).map_or(1, |filled| filled.len());
+        let room = *dice.pick(&[0, size - 1, size, size, size, size + 1, 65_536]);
+        note(&mut mix, same_filling(text, room));
+    });
+    show("quick fill", &mix, &FILLINGS);
+}
+
+/// The number that both fillers answer with.
+fn same_filling(text: &[u8], room: usize) -> u16 {
+    let (mut one, mut other) = (vec![0xAA; room], vec![0xAA; room]);
+    let answer = fill(text, &mut one);
+    assert_eq!(quick::fill(text, &mut other), answer);
+    assert!(one == other);
+    answer.err().map_or(0, |refusal| refusal.number)
 }
 
 /// The number that both readers answer with.

@@ -2,12 +2,12 @@
 //! README says they do.
 
 use cases::events::OwnEvent;
-use cases::readings;
 use cases::stored::{files, runs, UNTOUCHED};
+use cases::{fillings, readings};
 use second::answer::REFUSED;
 use second::{
-    first_fault, judge, overlap, policy_of, read, Answer, Overlap, Refusal, Verdict, EXAMPLE,
-    TABLE_WORDS,
+    fill, filled, filler, first_fault, judge, overlap, policy_of, read, Answer, Overlap, Refusal,
+    Verdict, EXAMPLE, TABLE_WORDS,
 };
 use std::collections::HashSet;
 use std::path::Path;
@@ -22,7 +22,7 @@ fn stored_files_are_made_again_byte_for_byte() {
 
 #[test]
 fn stored_files_are_small() {
-    let limits = [1_000, 159_000, 150_000, 100_000, 150_000];
+    let limits = [1_000, 159_000, 150_000, 100_000, 150_000, 299_000];
     for ((name, bytes), limit) in files().iter().zip(limits) {
         assert!(bytes.len() < limit, "{name}: {}", bytes.len());
     }
@@ -47,6 +47,12 @@ impl Replay {
             .iter()
             .rev()
             .fold(0, |n, &byte| n << 8 | u64::from(byte))
+    }
+
+    fn bytes(&mut self) -> Vec<u8> {
+        let start = self.at + 4;
+        self.at = start + self.number(4) as usize;
+        self.bytes[start..self.at].to_vec()
     }
 
     fn words(&mut self) -> Vec<u16> {
@@ -153,9 +159,7 @@ fn page_cases_replay() {
     let mut replay = Replay::of("page.cases");
     let mut seen = HashSet::new();
     for _ in 0..replay.number(4) {
-        let length = replay.number(4) as usize;
-        let text = replay.bytes[replay.at..replay.at + length].to_vec();
-        replay.at += length;
+        let text = replay.bytes();
         let answer = Refusal::answer(first_fault(&text));
         assert_eq!(answer, Answer::of(replay.number(8)));
         seen.insert((answer.class, answer.value));
@@ -171,14 +175,12 @@ fn read_cases_replay() {
     let mut replay = Replay::of("read.cases");
     let mut seen = HashSet::new();
     for _ in 0..replay.number(4) {
-        let length = replay.number(4) as usize;
-        let text = replay.bytes[replay.at..replay.at + length].to_vec();
-        replay.at += length;
-        let mut table = vec![UNTOUCHED; replay.number(2) as usize];
+        let text = replay.bytes();
+        let mut table = vec![UNTOUCHED.into(); replay.number(2) as usize];
         let answer = Refusal::answer(read(&text, &mut table).err());
         assert_eq!(answer, Answer::of(replay.number(8)));
         let mut stored = replay.table();
-        stored.resize(table.len(), UNTOUCHED);
+        stored.resize(table.len(), UNTOUCHED.into());
         assert_eq!(table, stored);
         seen.insert((answer.class, answer.value));
     }
@@ -187,6 +189,62 @@ fn read_cases_replay() {
     let refusals = [1, 3, 4, 5, 6, 7, 8, 9, 10, 11].map(|number| (REFUSED, number));
     let needed = refusals.into_iter().chain([(2, 0)]);
     assert_eq!(seen, needed.collect());
+}
+
+#[test]
+fn fill_cases_replay() {
+    let mut replay = Replay::of("fill.cases");
+    let (mut seen, mut spare) = (HashSet::new(), HashSet::new());
+    for _ in 0..replay.number(4) {
+        let text = replay.bytes();
+        let mut output = vec![UNTOUCHED; replay.number(4) as usize];
+        let answer = filler::answer(fill(&text, &mut output));
+        assert_eq!(answer, Answer::of(replay.number(8)));
+        let mut stored = replay.bytes();
+        stored.resize(output.len(), UNTOUCHED);
+        assert!(output == stored);
+        seen.insert((answer.class, answer.value));
+        if let Ok(filled) = filled(&text) {
+            spare.insert(output.len() as i64 - filled.len() as i64);
+        }
+    }
+    assert_eq!(replay.at, replay.bytes.len());
+    let refusals = (2..=11).chain([30, 31]).map(|number| (REFUSED, number));
+    assert_eq!(seen, refusals.chain([(2, 0)]).collect());
+    // None where 31 is due, one byte too few, just enough, and more.
+    for needed in [-65_537, -1, 0, 5] {
+        assert!(spare.contains(&needed), "{needed}");
+    }
+}
+
+/// Each field that may be put in several ways is put in each.
+#[test]
+fn forms_are_all_there() {
+    let text = |form: Vec<u8>| String::from_utf8(form).unwrap();
+    let forms: Vec<String> = fillings::forms().into_iter().map(text).collect();
+    assert!(forms.iter().all(|form| policy_of(form.as_bytes()).is_ok()));
+    let fields = [
+        "  can_call:",
+        "  can_return:",
+        "  can_read:",
+        "  can_write:",
+    ];
+    let contexts = ["    execution_context:", "    object_context:"];
+    let put = |keys: &[&str], values: &[&str]| {
+        for key in keys {
+            for value in values {
+                let line = format!("\n{key}{value}\n");
+                assert!(forms.iter().any(|form| form.contains(&line)), "{line}");
+            }
+        }
+    };
+    put(&fields, &["", " all", " []"]);
+    put(&["  - objects:"], &["", " all", " []"]);
+    put(&contexts, &["", " all"]);
+    for key in fields.into_iter().chain(contexts) {
+        let is_omitted = |form: &String| !form.contains(key);
+        assert!(forms.iter().any(is_omitted), "{key}");
+    }
 }
 
 #[test]

@@ -8,6 +8,7 @@
 
 pub mod bridge;
 pub mod case;
+pub mod fill;
 pub mod judge;
 pub mod lent;
 pub mod options;

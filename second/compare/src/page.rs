@@ -17,7 +17,7 @@ pub fn ask(case: u64, dice: &mut Dice, _: &Options, requests: &mut Requests) -> 
         let plain = Refusal::answer(first_fault(&bytes));
         check(&bytes, plain, replies)
             .map_err(|fault| show::difference(&[show::text(&bytes)], fault))?;
-        mix.count(outcome(plain));
+        mix.count(outcome(plain, "accepted"));
         Ok(())
     })
 }
@@ -33,10 +33,10 @@ pub fn told(answer: Answer) -> String {
     format!("class {class} number {value} line {rest}")
 }
 
-/// Which sort of answer it is.
-pub fn outcome(answer: Answer) -> String {
+/// Which refusal an answer is, or else this word.
+pub fn outcome(answer: Answer, not_refused: &str) -> String {
     match answer.class {
         REFUSED => format!("refused {:>2}", answer.value),
-        _ => "accepted".to_string(),
+        _ => not_refused.to_string(),
     }
 }

@@ -17,7 +17,7 @@ pub fn ask(case: u64, dice: &mut Dice, _: &Options, requests: &mut Requests) -> 
         Some(text) => (text, TABLE_WORDS + 1),
         None => (texts::text(dice), room(dice)),
     };
-    let before: Vec<u16> = (0..room).map(|_| dice.next() as u16 | 1).collect();
+    let before = not_zero(dice, room);
     requests.lend(TEXT, &text);
     requests.lend(TABLE, &before);
     requests.call(&Call::new(Function::Read, &[TEXT, TABLE], &[]));
@@ -30,9 +30,14 @@ pub fn ask(case: u64, dice: &mut Dice, _: &Options, requests: &mut Requests) -> 
             let room = format!("table of {room} words");
             show::difference(&[show::text(&text), room], fault)
         })?;
-        mix.count(outcome(plain));
+        mix.count(outcome(plain, "accepted"));
         Ok(())
     })
+}
+
+/// So many words, neither they nor their low bytes zero.
+pub fn not_zero(dice: &mut Dice, count: usize) -> Vec<u16> {
+    (0..count).map(|_| dice.next() as u16 | 1).collect()
 }
 
 /// How many words are lent: mostly enough.

@@ -4,7 +4,7 @@ use crate::bridge::Bridge;
 use crate::case::{Check, Mix};
 use crate::options::Options;
 use crate::wire::{Function, Replies, Requests};
-use crate::{judge, overlap, page, read, well_formed};
+use crate::{fill, judge, overlap, page, read, well_formed};
 use cases::Dice;
 use std::io::{self, Write};
 use std::ops::Range;
@@ -20,6 +20,7 @@ fn ask(function: Function) -> Ask {
         Function::Overlap => overlap::ask,
         Function::Page => page::ask,
         Function::Read => read::ask,
+        Function::Fill => fill::ask,
     }
 }
 

@@ -12,16 +12,18 @@ pub enum Function {
     Overlap,
     Page,
     Read,
+    Fill,
 }
 
 impl Function {
-    pub const ALL: [Function; 6] = [
+    pub const ALL: [Function; 7] = [
         Function::WellFormed,
         Function::Judge,
         Function::JudgeKnown,
         Function::Overlap,
         Function::Page,
         Function::Read,
+        Function::Fill,
     ];
 
     pub fn name(self) -> &'static str {
@@ -32,6 +34,7 @@ impl Function {
             Function::Overlap => "overlap",
             Function::Page => "page",
             Function::Read => "read",
+            Function::Fill => "fill",
         }
     }
 }

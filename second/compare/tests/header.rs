@@ -1,7 +1,7 @@
 //! `include/dovetenon.h` and its example say what the plain program says.
 
 use second::judge::FRAMES;
-use second::{refusal, EXAMPLE, TABLE_WORDS, WITNESS_WORDS};
+use second::{filler, refusal, EXAMPLE, TABLE_WORDS, WITNESS_WORDS};
 use second::{Overlap, Refusal, Verdict};
 use std::collections::BTreeMap;
 
@@ -45,6 +45,8 @@ fn every_name_of_the_header_is_the_plain_number() {
         ("STACK", refusal::STACK),
         ("ALLOCATION_STACK", refusal::ALLOCATION),
         ("OPERATION", refusal::OPERATION),
+        ("OUTPUT_TOO_SHORT", refusal::SHORT_OUTPUT),
+        ("FILLED_TOO_LONG", refusal::LONG_FILLED),
         ("WITNESS_TOO_SHORT", refusal::SHORT_WITNESS),
     ];
     let classes = [
@@ -57,6 +59,8 @@ fn every_name_of_the_header_is_the_plain_number() {
         ("REPORT_CLEAR", Overlap::Clear.answer()),
         ("READING_REFUSED", Refusal::answer(Some(Refusal::of(2)))),
         ("READING_ACCEPTED", Refusal::answer(None)),
+        ("FILLING_REFUSED", filler::answer(Err(Refusal::of(30)))),
+        ("FILLING_WRITTEN", filler::answer(Ok(0))),
     ];
     let others = [
         ("TABLE_WORDS", TABLE_WORDS),
@@ -84,6 +88,15 @@ fn the_example_in_c_has_the_worked_text() {
     let quoted = EXAMPLE.lines().map(|line| format!("    \"{line}\\n\""));
     let quoted: Vec<String> = quoted.collect();
     assert!(file("include/example.c").contains(&quoted.join("\n")));
+}
+
+/// What it writes is held to this file where the bridge is built.
+#[test]
+fn the_example_in_c_ends_with_the_filled_text() {
+    let filled = second::filled(EXAMPLE.as_bytes()).unwrap();
+    let filled = String::from_utf8(filled).unwrap();
+    let end = format!("\n{filled}refused, 30, line 0\n");
+    assert!(file("include/example.out").ends_with(&end));
 }
 
 #[test]

@@ -33,6 +33,7 @@ fn a_right_stand_in_is_equal() {
         "overlap",
         "page",
         "read",
+        "fill",
     ];
     for name in names {
         let line = format!("{name}: 300 cases equal\n");
@@ -168,7 +169,10 @@ fn wrong_readings_are_found() {
         ("an unknown name is refused as a repeat", "number 8"),
         ("a repeat is on the line before", "number 7"),
         ("word 16,384 is changed", "table: place 16384 is Some(0)"),
-        ("a word past the table is changed", "table: written outside"),
+        (
+            "the place past what is lent is changed",
+            "table: written outside",
+        ),
         ("a text is changed", "text: place"),
     ];
     for (fault, told) in faults {
@@ -176,17 +180,64 @@ fn wrong_readings_are_found() {
     }
 }
 
-/// Every refusal, and every limit, is among the cases that the gate runs.
+#[test]
+fn wrong_fillings_are_found() {
+    let only = "--only fill";
+    let faults = [
+        ("a text is copied", "proved: Answer { class: 2, value: 0"),
+        ("the byte behind the filled text is cleared", "is Some(0)"),
+        ("a refused text is written", "output: place 0 is Some(0)"),
+        ("30 goes before 31", "proved: Answer { class: 1, value: 30"),
+        ("a size is one too large", "plain:  Answer { class: 2"),
+        (
+            "the place past what is lent is changed",
+            "output: written outside",
+        ),
+        ("a text is changed", "text: place 0"),
+    ];
+    for (fault, told) in faults {
+        found(fault, only, &["text of", "output of", told]);
+    }
+}
+
+/// What is right on the text, and wrong on its filled text.
+#[test]
+fn wrong_round_trips_are_found() {
+    let faults = [
+        ("a filled text is filled otherwise", "filled again: place 0"),
+        (
+            "a filled text is read otherwise",
+            "table of the filled text: place 2114",
+        ),
+    ];
+    for (fault, told) in faults {
+        found(fault, "--only fill", &["text of", told]);
+    }
+}
+
+/// These outcomes are among the cases that the gate runs.
+fn has_outcomes(function: &str, refusals: impl Iterator<Item = u16>, others: &[&str]) {
+    let line = format!("--only {function} --count 3000");
+    let (equal, printed) = compared("", &options(&line).unwrap());
+    assert!(equal, "{printed}");
+    let refused = refusals.map(|number| format!("refused {number:>2}"));
+    for outcome in refused.chain(others.iter().map(|other| other.to_string())) {
+        let line = format!("  {outcome}: ");
+        assert!(printed.contains(&line), "no {line:?} in {printed}");
+    }
+    println!("{printed}");
+}
+
+/// Every refusal, and every limit.
 #[test]
 fn readings_have_every_outcome() {
-    let (equal, printed) = compared("", &options("--only read --count 3000").unwrap());
-    assert!(equal, "{printed}");
-    for number in 1..=11 {
-        let line = format!("  refused {number:>2}: ");
-        assert!(printed.contains(&line), "{printed}");
-    }
-    assert!(printed.contains("  accepted: "), "{printed}");
-    println!("{printed}");
+    has_outcomes("read", 1..=11, &["accepted"]);
+}
+
+#[test]
+fn fillings_have_every_outcome() {
+    let refusals = (2..=11).chain([30, 31]);
+    has_outcomes("fill", refusals, &["written", "round trips"]);
 }
 
 #[test]
@@ -253,6 +304,8 @@ fn bench_times_a_stand_in_and_finds_other_answers() {
     let rows = [
         "read: patterns",
         "page: one hash",
+        "fill: short entries",
+        "both proved: every limit           read ",
         "the table test",
         "the report",
         "64 frames",
@@ -260,7 +313,12 @@ fn bench_times_a_stand_in_and_finds_other_answers() {
     for row in rows {
         assert!(printed.contains(row), "{printed}");
     }
-    for fault in ["all is inside one domain", "the last word is wrong"] {
+    let faults = [
+        "all is inside one domain",
+        "the last word is wrong",
+        "the byte behind the filled text is cleared",
+    ];
+    for fault in faults {
         let wrong = run(fault);
         assert!(!wrong.status.success());
         let said = String::from_utf8(wrong.stderr).unwrap();

@@ -1,5 +1,6 @@
 //! The filler: policy text to text with every default written.
 
+use crate::answer::Answer;
 use crate::file::{Access, Context, Domain, Entry, File, List, Listed, Word};
 use crate::reader::accepted;
 use crate::refusal::{Refusal, LONG_FILLED, SHORT_OUTPUT};
@@ -8,15 +9,33 @@ use crate::text::TEXT_LIMIT;
 /// Writes the filled text and gives its length: "2 to 11 as the reader does,
 /// then 31, then 30, and on refusal its output is untouched".
 pub fn fill(text: &[u8], output: &mut [u8]) -> Result<usize, Refusal> {
-    let filled = filled(text)?;
+    write(&filled(text)?, output)
+}
+
+/// Writes a filled text: 31, then 30.
+pub fn write(filled: &[u8], output: &mut [u8]) -> Result<usize, Refusal> {
     if filled.len() > TEXT_LIMIT {
         return Err(Refusal::of(LONG_FILLED));
     }
     let Some(front) = output.get_mut(..filled.len()) else {
         return Err(Refusal::of(SHORT_OUTPUT));
     };
-    front.copy_from_slice(&filled);
+    front.copy_from_slice(filled);
     Ok(filled.len())
+}
+
+/// What is answered: a refusal with its number and line, or class 2, written,
+/// with the size of the filled text.
+pub fn answer(filling: Result<usize, Refusal>) -> Answer {
+    match filling {
+        Ok(size) => Answer {
+            class: 2,
+            value: 0,
+            // At most 65,536.
+            rest: size as u32,
+        },
+        Err(refusal) => Refusal::answer(Some(refusal)),
+    }
 }
 
 /// The filled text, however long it is; refusals 2 to 11.

@@ -1,9 +1,12 @@
-//! The reader once more, as it is written for speed: one pass over the text,
-//! names found in hash maps, every value put into its words at once.
+//! The reader and the filler once more, as they are written for speed: one pass
+//! over the text, names found in hash maps, every value put into its words and
+//! its filled line at once.
 //!
-//! It takes good texts alone. Any other it leaves to `reader::read`, which
-//! knows the number and the line. `bench` holds the proved reader beside it.
+//! It takes good texts alone. Any other it leaves to `reader::read` and
+//! `filler::fill`, which know the number and the line. `bench` holds the proved
+//! functions beside it.
 
+use crate::filler;
 use crate::lookup::Map;
 use crate::policy::{DESCRIPTORS, DOMAINS, ELEMENTS, ENTRIES, MEMBERS};
 use crate::reader;
@@ -28,12 +31,29 @@ pub fn read(text: &[u8], table: &mut [u16]) -> Result<(), Refusal> {
     reader::read(text, table)
 }
 
+/// Writes the filled text and answers as `filler::fill` does. The lines are kept
+/// beside the output until all is known to be good, since on refusal that is
+/// untouched.
+pub fn fill(text: &[u8], output: &mut [u8]) -> Result<usize, Refusal> {
+    let mut filled = Vec::with_capacity(TEXT_LIMIT);
+    if takes_into(text, &mut vec![0; TABLE_WORDS], &mut filled) {
+        return filler::write(&filled, output);
+    }
+    filler::fill(text, output)
+}
+
 /// Whether the reader takes a text. If so, its table stands in the words, zero
 /// before; if not, they hold anything.
 pub fn takes(text: &[u8], words: &mut [u16]) -> bool {
+    takes_into(text, words, &mut NotFilled)
+}
+
+/// The same, and its filled text goes to the lines.
+fn takes_into(text: &[u8], words: &mut [u16], filled: &mut impl Lines) -> bool {
     let mut pass = Pass {
         left: text,
         words,
+        filled,
         domains: HashMap::new(),
         objects: HashSet::with_capacity(MEMBERS),
         functions: HashMap::with_capacity(MEMBERS),
@@ -43,22 +63,50 @@ pub fn takes(text: &[u8], words: &mut [u16]) -> bool {
     text.len() <= TEXT_LIMIT && pass.file().is_some()
 }
 
+/// The word of a uid or gid that is a variable.
+const VARIABLE: u16 = 1;
+
 /// What two entries must not share: the context and the subject of an entry,
 /// as its first words hold them.
 type Principal = [u16; SUBJECT_AT + 1];
 
-/// The variables that a context has.
-#[derive(Default)]
-struct Variables<'t> {
-    uid: Option<&'t [u8]>,
-    gid: Option<&'t [u8]>,
+/// The values of a context, written or not.
+struct Context<'t> {
+    call_context: &'t [u8],
+    uid: &'t [u8],
+    gid: &'t [u8],
+}
+
+/// Where the lines of the filled text go.
+trait Lines {
+    /// A key and its value; without one the line ends at the colon.
+    fn line(&mut self, key: &[u8], value: &[u8]);
+}
+
+/// For the reader, which wants none.
+struct NotFilled;
+
+impl Lines for NotFilled {
+    fn line(&mut self, _: &[u8], _: &[u8]) {}
+}
+
+impl Lines for Vec<u8> {
+    fn line(&mut self, key: &[u8], value: &[u8]) {
+        self.extend_from_slice(key);
+        if !value.is_empty() {
+            self.push(b' ');
+            self.extend_from_slice(value);
+        }
+        self.push(b'\n');
+    }
 }
 
 /// How far the text is read, and what is known by then. Nothing is at fault as
 /// long as every function gives something.
-struct Pass<'t, 'w> {
+struct Pass<'t, 'w, L> {
     left: &'t [u8],
     words: &'w mut [u16],
+    filled: &'w mut L,
     /// The domains of both maps, whose names must differ.
     domains: HashMap<&'t [u8], (Map, u16)>,
     objects: HashSet<&'t [u8]>,
@@ -67,11 +115,11 @@ struct Pass<'t, 'w> {
     descriptors: usize,
 }
 
-impl<'t> Pass<'t, '_> {
+impl<'t, L: Lines> Pass<'t, '_, L> {
     fn file(&mut self) -> Option<()> {
         self.skip();
-        let object_domains = self.map(b"object_map", Map::Objects)?;
-        let subject_domains = self.map(b"subject_map", Map::Subjects)?;
+        let object_domains = self.map(b"object_map:", Map::Objects)?;
+        let subject_domains = self.map(b"subject_map:", Map::Subjects)?;
         let entries = self.privileges()?;
         let (objects, functions) = (self.objects.len(), self.functions.len());
         let counts = [object_domains, subject_domains, objects, functions, entries];
@@ -139,29 +187,34 @@ impl<'t> Pass<'t, '_> {
         self.skip();
     }
 
-    /// The rest of the line.
+    /// A space and the rest of the line.
     fn scalar(&mut self) -> Option<&'t [u8]> {
+        self.take(b" ")?;
         let end = self.left.iter().position(|&byte| byte == b'\n')?;
         let value = &self.left[..end];
         self.next_line(end);
         Some(value)
     }
 
-    /// The elements of a list, its first bracket taken; then the line's end.
-    fn list(&mut self, mut each: impl FnMut(&mut Self, &'t [u8]) -> Option<()>) -> Option<()> {
-        if self.ends(b"]") {
-            return Some(());
-        }
-        loop {
+    /// A space, a list, whose elements are each looked at, and the line's end.
+    fn list(
+        &mut self,
+        mut each: impl FnMut(&mut Self, &'t [u8]) -> Option<()>,
+    ) -> Option<&'t [u8]> {
+        self.take(b" ")?;
+        let start = self.left;
+        self.take(b"[")?;
+        let mut has_more = !self.left.starts_with(b"]");
+        while has_more {
             let is_end = |&byte: &u8| byte == b',' || byte == b']';
             let (element, left) = self.left.split_at(self.left.iter().position(is_end)?);
             self.left = left;
             each(self, element)?;
-            match self.left {
-                [b',', b' ', left @ ..] => self.left = left,
-                _ => return self.end(b"]"),
-            }
+            has_more = self.takes(b", ");
         }
+        let end = start.len() - self.left.len() + 1;
+        self.end(b"]")?;
+        Some(&start[..end])
     }
 
     // ---- Maps
@@ -169,10 +222,12 @@ impl<'t> Pass<'t, '_> {
     /// A top-level key: `[]` or items. Tells whether items follow.
     fn top(&mut self, key: &[u8]) -> Option<bool> {
         self.take(key)?;
-        if self.ends(b": []") {
+        if self.ends(b" []") {
+            self.filled.line(key, b"[]");
             return Some(false);
         }
-        self.end(b":")?;
+        self.end(b"")?;
+        self.filled.line(key, b"");
         self.left.starts_with(b"- ").then_some(true)
     }
 
@@ -180,8 +235,9 @@ impl<'t> Pass<'t, '_> {
     fn map(&mut self, key: &[u8], map: Map) -> Option<usize> {
         let mut count = 0;
         if self.top(key)? {
-            while self.takes(b"- name: ") {
+            while self.takes(b"- name:") {
                 let name = self.scalar()?;
+                self.filled.line(b"- name:", name);
                 let is_new = scalars::is_domain_name(name)
                     && self.domains.insert(name, (map, count as u16)).is_none();
                 if !is_new || count == DOMAINS {
@@ -195,16 +251,17 @@ impl<'t> Pass<'t, '_> {
     }
 
     fn members(&mut self, map: Map, domain: u16) -> Option<()> {
-        match map {
-            Map::Objects => {
-                self.take(b"  objects: [")?;
-                self.list(|pass, name| pass.object(name, domain))
-            }
-            Map::Subjects => {
-                self.take(b"  subjects: [")?;
-                self.list(|pass, name| pass.function(name, domain))
-            }
-        }
+        let key: &[u8] = match map {
+            Map::Objects => b"  objects:",
+            Map::Subjects => b"  subjects:",
+        };
+        self.take(key)?;
+        let list = self.list(|pass, name| match map {
+            Map::Objects => pass.object(name, domain),
+            Map::Subjects => pass.function(name, domain),
+        })?;
+        self.filled.line(key, list);
+        Some(())
     }
 
     fn object(&mut self, name: &'t [u8], domain: u16) -> Option<()> {
@@ -233,7 +290,7 @@ impl<'t> Pass<'t, '_> {
     /// The entries; how many there are.
     fn privileges(&mut self) -> Option<usize> {
         let mut count = 0;
-        if self.top(b"privileges")? {
+        if self.top(b"privileges:")? {
             while self.ends(b"- principal:") {
                 if count == ENTRIES {
                     return None;
@@ -247,18 +304,20 @@ impl<'t> Pass<'t, '_> {
 
     /// An entry, into its block of words.
     fn entry(&mut self, at: usize) -> Option<()> {
-        self.take(b"    subject: ")?;
+        self.take(b"    subject:")?;
         let subject = self.scalar()?;
+        self.filled.line(b"- principal:", b"");
+        self.filled.line(b"    subject:", subject);
         self.words[at + SUBJECT_AT] = self.domain(Map::Subjects, subject)?;
-        let variables = self.context(at, b"    execution_context:")?;
+        let context = self.context(at, b"    execution_context:")?;
         let block = &self.words[at..=at + SUBJECT_AT];
         if !self.principals.insert(block.try_into().ok()?) {
             return None;
         }
         self.grant(at + CALL_AT, b"  can_call:", Map::Subjects)?;
         self.grant(at + RETURN_AT, b"  can_return:", Map::Subjects)?;
-        self.words[at + READS_AT] = self.access(b"  can_read:", &variables)?;
-        self.words[at + WRITES_AT] = self.access(b"  can_write:", &variables)?;
+        self.words[at + READS_AT] = self.access(b"  can_read:", &context)?;
+        self.words[at + WRITES_AT] = self.access(b"  can_write:", &context)?;
         Some(())
     }
 
@@ -270,43 +329,55 @@ impl<'t> Pass<'t, '_> {
 
     /// A grant, into its words; omitted it means `all`.
     fn grant(&mut self, at: usize, key: &[u8], map: Map) -> Option<()> {
-        if !self.takes(key) || self.ends(b" all") {
+        let value: &[u8] = if !self.takes(key) || self.ends(b" all") {
             self.words[at] = 1;
-            return Some(());
-        }
-        if self.ends(b"") {
-            return Some(());
-        }
-        self.take(b" [")?;
-        self.list(|pass, name| {
-            let domain = pass.domain(map, name)?;
-            let word = &mut pass.words[at + 1 + usize::from(domain / 16)];
-            let bit = 1 << (domain % 16);
-            let is_new = *word & bit == 0;
-            *word |= bit;
-            is_new.then_some(())
-        })
+            b"all"
+        } else if self.ends(b"") {
+            b"[]"
+        } else {
+            self.list(|pass, name| {
+                let domain = pass.domain(map, name)?;
+                let word = &mut pass.words[at + 1 + usize::from(domain / 16)];
+                let bit = 1 << (domain % 16);
+                let is_new = *word & bit == 0;
+                *word |= bit;
+                is_new.then_some(())
+            })?
+        };
+        self.filled.line(key, value);
+        Some(())
     }
 
     /// A `can_read` or `can_write`; how many descriptors it has.
-    fn access(&mut self, key: &[u8], bound: &Variables<'t>) -> Option<u16> {
+    fn access(&mut self, key: &[u8], bound: &Context<'t>) -> Option<u16> {
         if !self.takes(key) || self.ends(b" all") {
             let at = self.descriptor()?;
             self.words[at] = 1;
             self.words[at + DESCRIPTOR_GRANT_AT] = 1;
+            self.filled.line(key, b"all");
             return Some(1);
         }
-        let mut count = 0;
-        if self.ends(b" []") {
-            return Some(count);
+        let is_none = self.ends(b" []") || {
+            self.end(b"")?;
+            !self.left.starts_with(b"  - ")
+        };
+        if is_none {
+            self.filled.line(key, b"[]");
+            return Some(0);
         }
-        self.end(b"")?;
+        self.filled.line(key, b"");
+        self.items(bound)
+    }
+
+    /// The items of a `can_read` or `can_write`; how many there are.
+    fn items(&mut self, bound: &Context<'t>) -> Option<u16> {
+        let mut count = 0;
         while self.left.starts_with(b"  - ") {
             let at = self.descriptor()?;
             self.grant(at + DESCRIPTOR_GRANT_AT, b"  - objects:", Map::Objects)?;
             let used = self.context(at, b"    object_context:")?;
-            let is_bound = (used.uid.is_none() || used.uid == bound.uid)
-                && (used.gid.is_none() || used.gid == bound.gid);
+            let is_bound = (self.words[at + 1] != VARIABLE || used.uid == bound.uid)
+                && (self.words[at + 2] != VARIABLE || used.gid == bound.gid);
             if !is_bound {
                 return None;
             }
@@ -325,40 +396,55 @@ impl<'t> Pass<'t, '_> {
     // ---- Contexts
 
     /// A context, into its words.
-    fn context(&mut self, at: usize, key: &[u8]) -> Option<Variables<'t>> {
-        let mut variables = Variables::default();
+    fn context(&mut self, at: usize, key: &[u8]) -> Option<Context<'t>> {
+        let mut context = Context {
+            call_context: b"[all]",
+            uid: b"all",
+            gid: b"all",
+        };
         self.words[at] = 1;
-        if !self.takes(key) || self.ends(b" all") {
-            return Some(variables);
+        if self.takes(key) && !self.ends(b" all") {
+            self.end(b"")?;
+            self.keys(at, &mut context)?;
         }
-        self.end(b"")?;
+        self.filled.line(key, b"");
+        self.filled
+            .line(b"      call_context:", context.call_context);
+        self.filled.line(b"      uid:", context.uid);
+        self.filled.line(b"      gid:", context.gid);
+        Some(context)
+    }
+
+    /// One or more keys of a context.
+    fn keys(&mut self, at: usize, context: &mut Context<'t>) -> Option<()> {
         let start = self.left.len();
-        if self.takes(b"      call_context: [") {
-            self.pattern(at)?;
+        if self.takes(b"      call_context:") {
+            context.call_context = self.pattern(at)?;
         }
-        if self.takes(b"      uid: ") {
-            let value = self.scalar()?;
-            self.words[at + 1] = match value {
+        if self.takes(b"      uid:") {
+            context.uid = self.scalar()?;
+            self.words[at + 1] = match context.uid {
                 b"all" => 0,
                 b"root" => 2,
                 b"user" => 3,
-                _ => 1,
+                _ => VARIABLE,
             };
-            variables.uid = Some(value).filter(|_| self.words[at + 1] == 1);
-            scalars::is_uid(value).then_some(())?;
+            scalars::is_uid(context.uid).then_some(())?;
         }
-        if self.takes(b"      gid: ") {
-            let value = self.scalar()?;
-            self.words[at + 2] = u16::from(value != b"all");
-            variables.gid = Some(value).filter(|_| self.words[at + 2] == 1);
-            scalars::is_gid(value).then_some(())?;
+        if self.takes(b"      gid:") {
+            context.gid = self.scalar()?;
+            self.words[at + 2] = match context.gid {
+                b"all" => 0,
+                _ => VARIABLE,
+            };
+            scalars::is_gid(context.gid).then_some(())?;
         }
-        (self.left.len() < start).then_some(variables)
+        (self.left.len() < start).then_some(())
     }
 
-    fn pattern(&mut self, at: usize) -> Option<()> {
+    fn pattern(&mut self, at: usize) -> Option<&'t [u8]> {
         let mut count = 0;
-        self.list(|pass, name| {
+        let list = self.list(|pass, name| {
             if count == ELEMENTS {
                 return None;
             }
@@ -370,6 +456,6 @@ impl<'t> Pass<'t, '_> {
             Some(())
         })?;
         self.words[at] = count as u16;
-        (count > 0).then_some(())
+        (count > 0).then_some(list)
     }
 }

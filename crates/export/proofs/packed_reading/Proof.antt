@@ -4,8 +4,6 @@ use borrow.Author.Needs.{needs}
 use Rattle.export.proofs.packed_reading.Statement.{statement}
 use Rattle.export.proofs.packed_reading.Tie as tie
 
--- Each case packs to its number.
-
 enum-known-reading : tie.Need-enum-known-reading
 enum-known-reading c = search needs
 

@@ -3,12 +3,14 @@
 //! itself: see `tests/stand_ins.rs`.
 #![forbid(unsafe_code)]
 
-use compare::lent::Lent;
+use compare::lent::{Lent, Value};
 use compare::wire::{Call, Function, CALL, LEND, SHOW, TIME, WHAT_IS_HERE};
 use second::policy::ELEMENTS;
-use second::refusal::{EMPTY, LAYOUT, SHORT_TABLE, TWICE, UNKNOWN};
+use second::refusal::{EMPTY, LAYOUT, LONG_FILLED, SHORT_OUTPUT, SHORT_TABLE, TWICE, UNKNOWN};
 use second::table::{ENTRIES_AT, ENTRY_WORDS, PATTERN_AT, UNUSED_AT};
-use second::{first_fault, well_formed, Event, Overlap, Refusal, Verdict, TABLE_WORDS};
+use second::{
+    filled, filler, first_fault, well_formed, Event, Overlap, Refusal, Verdict, TABLE_WORDS,
+};
 use std::collections::BTreeMap;
 use std::io::{self, Read, Write};
 use std::time::Instant;
@@ -97,12 +99,20 @@ fn what_is_here(fault: &str) -> String {
     names.fold("native\n".to_string(), |text, name| text + name + "\n")
 }
 
+/// What is lent for one of a call's stretches.
+fn lent<T: Value>(slots: &Slots, call: &Call, place: usize) -> Lent<T> {
+    Lent::of(&slots[&call.slots[place]]).expect("something lent")
+}
+
+/// Changes the value right behind what is lent.
+fn change_past<T: Value + Default>(lent: &mut Lent<T>) {
+    let place = Lent::<T>::guard() / T::SIZE + lent.get().len();
+    lent.all_mut()[place] = T::default();
+}
+
 /// Calls a function and leaves in the slots what it wrote.
 fn answer(fault: &str, slots: &mut Slots, call: &Call) -> u64 {
-    let words = |slot: usize| -> Lent<u16> {
-        let bytes = slots.get(&call.slots[slot]);
-        bytes.and_then(|bytes| Lent::of(bytes)).expect("words lent")
-    };
+    let words = |place| lent::<u16>(slots, call, place);
     match Function::ALL[call.function as usize] {
         Function::WellFormed => is_well_formed(fault, words(0).get()).into(),
         Function::Judge => judged(fault, call, &words(0), &words(1), &words(2)),
@@ -121,33 +131,34 @@ fn answer(fault: &str, slots: &mut Slots, call: &Call) -> u64 {
             let (table, mut witness) = (words(0), words(1));
             let answer = reported(fault, table.get(), witness.get_mut());
             if fault == "a word past the witness is changed" {
-                let place = 8 + witness.get().len();
-                witness.all_mut()[place] = 0;
+                change_past(&mut witness);
             }
             slots.insert(call.slots[1], witness.bytes());
             answer
         }
-        Function::Page => {
-            let text: Option<Lent<u8>> = Lent::of(&slots[&call.slots[0]]);
-            paged(fault, text.expect("a text lent").get())
-        }
-        Function::Read => {
-            let text: Option<Lent<u8>> = Lent::of(&slots[&call.slots[0]]);
-            let (mut text, mut table) = (text.expect("a text lent"), words(1));
-            let answer = taken(fault, text.get(), table.get_mut());
-            match fault {
-                "a text is changed" => text.get_mut().fill(b' '),
-                "a word past the table is changed" => {
-                    let place = 8 + table.get().len();
-                    table.all_mut()[place] = 0;
-                }
-                _ => {}
-            }
-            slots.insert(call.slots[0], text.bytes());
-            slots.insert(call.slots[1], table.bytes());
-            answer
-        }
+        Function::Page => paged(fault, lent(slots, call, 0).get()),
+        Function::Read => written(fault, slots, call, taken),
+        Function::Fill => written(fault, slots, call, filled_out),
     }
+}
+
+/// Calls a function that takes a text and writes into the other stretch lent.
+fn written<T: Value + Default>(
+    fault: &str,
+    slots: &mut Slots,
+    call: &Call,
+    function: fn(&str, &[u8], &mut [T]) -> u64,
+) -> u64 {
+    let (mut text, mut output) = (lent::<u8>(slots, call, 0), lent::<T>(slots, call, 1));
+    let answer = function(fault, text.get(), output.get_mut());
+    match fault {
+        "a text is changed" => text.get_mut().fill(b' '),
+        "the place past what is lent is changed" => change_past(&mut output),
+        _ => {}
+    }
+    slots.insert(call.slots[0], text.bytes());
+    slots.insert(call.slots[1], output.bytes());
+    answer
 }
 
 fn is_well_formed(fault: &str, table: &[u16]) -> bool {
@@ -250,7 +261,33 @@ fn taken(fault: &str, text: &[u8], table: &mut [u16]) -> u64 {
         ("an unknown name is refused as a repeat", UNKNOWN) => answer.value = TWICE,
         ("a repeat is on the line before", TWICE) => answer.rest -= 1,
         ("word 16,384 is changed", _) if table.len() > TABLE_WORDS => table[TABLE_WORDS] = 0,
+        ("a filled text is read otherwise", 0) if is_filled(text) => table[RETURN_SET] ^= 1,
         _ => {}
     }
     answer.packed()
+}
+
+/// Whether a text is its own filled text.
+fn is_filled(text: &[u8]) -> bool {
+    filled(text).is_ok_and(|filled| filled == text)
+}
+
+fn filled_out(fault: &str, text: &[u8], output: &mut [u8]) -> u64 {
+    let room = output.len();
+    let mut filling = second::fill(text, output);
+    match (fault, filling) {
+        ("a text is copied", Ok(_)) if text.len() <= room => {
+            output[..text.len()].copy_from_slice(text);
+            filling = Ok(text.len());
+        }
+        ("the byte behind the filled text is cleared", Ok(size)) if size < room => output[size] = 0,
+        ("a refused text is written", Err(_)) if room > 0 => output[0] = 0,
+        ("a filled text is filled otherwise", Ok(_)) if is_filled(text) => output[0] = b' ',
+        ("30 goes before 31", Err(refusal)) if refusal.number == LONG_FILLED && room == 0 => {
+            filling = Err(Refusal::of(SHORT_OUTPUT));
+        }
+        ("a size is one too large", Ok(size)) => filling = Ok(size + 1),
+        _ => {}
+    }
+    filler::answer(filling).packed()
 }

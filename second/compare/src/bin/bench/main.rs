@@ -1,13 +1,13 @@
 //! `bench`: how long the plain program and the proved one take for a text, a
 //! report and an event.
 //!
-//! Both read the same large texts. Both judge the same events under the same
+//! Both read and fill the same large texts. Both judge the same events under the same
 //! table, which has 128 entries and 256 descriptors, and report on a table of
 //! 128 full patterns of one subject with no clash. The proved one is timed
 //! inside the bridge, so that no pipe is measured.
 #![forbid(unsafe_code)]
 
-mod reader;
+mod texts;
 mod timing;
 
 use cases::events::OwnEvent;
@@ -78,7 +78,7 @@ fn bench(asked: &Asked) -> Result<(), String> {
         most_runs: asked.runs,
     };
     say_how(&bench);
-    reader::rows(&mut bench)?;
+    texts::rows(&mut bench)?;
     let mut dice = Dice::new(asked.seed);
     let words = encode(&full::policy(&mut dice)).ok_or("no table")?;
     let mut lent = Requests::default();

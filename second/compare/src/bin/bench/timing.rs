@@ -42,14 +42,28 @@ impl Figure {
     }
 
     pub fn print(&self, name: &str, bridge: &Bridge) {
-        let plain = self.plain;
-        let told = match self.proved {
-            None => "not there yet".to_string(),
-            Some(proved) if bridge.emulated => format!("{proved:>10.2} (emulated)"),
-            Some(proved) => format!("{proved:>10.2}   {:.2} times", proved / plain),
-        };
-        println!("{name:<34} plain {plain:>10.2}   proved {told}");
+        print_pair(name, ("plain", self.plain), ("proved", self.proved), bridge);
     }
+
+    /// The proved times of two functions.
+    pub fn print_proved(pair: [(&str, &Figure); 2], name: &str, bridge: &Bridge) {
+        let [(one, first), (other, second)] = pair;
+        if let Some(time) = first.proved {
+            print_pair(name, (one, time), (other, second.proved), bridge);
+        }
+    }
+}
+
+/// Two times, each with what took it, and how many times the one the other is,
+/// unless an emulator ran.
+fn print_pair(name: &str, one: (&str, f64), other: (&str, Option<f64>), bridge: &Bridge) {
+    let (one, time) = one;
+    let told = match other.1 {
+        None => "not there yet".to_string(),
+        Some(other) if bridge.emulated => format!("{other:>10.2} (emulated)"),
+        Some(other) => format!("{other:>10.2}   {:.2} times", other / time),
+    };
+    println!("{name:<34} {one} {time:>10.2}   {} {told}", other.0);
 }
 
 /// Times these calls; `plain` makes all of them in plain Rust and gives the sum

@@ -1,0 +1,51 @@
+-- The page refuses the text, or its fields are filled out.
+use Rattle.file_read.proofs.Finding.{fields-sound, fields-few, fields-readable, refusal-fits}
+use Rattle.file_fill.proofs.Filling.{page-refuses, page-untouched, page-answers, page-leaves}
+use borrow.Author.Needs.{needs}
+use Rattle.file_fill.proofs.fill.Statement.{statement}
+use Rattle.file_fill.proofs.fill.Tie as tie
+
+slice-aggregate-list-fields : tie.Need-slice-aggregate-list-fields
+slice-aggregate-list-fields c = search needs
+
+list-fields-requires : tie.Need-list-fields-requires
+list-fields-requires c κs = search needs
+
+enum-known-number : tie.Need-enum-known-number
+enum-known-number c = search needs
+
+cast-t11 : tie.Need-cast-t11
+cast-t11 c = search (needs, refusal-fits)
+
+enum-known-n : tie.Need-enum-known-n
+enum-known-n c = search needs
+
+slice-aggregate-fill-fields : tie.Need-slice-aggregate-fill-fields
+slice-aggregate-fill-fields c = search needs
+
+fill-fields-requires : tie.Need-fill-fields-requires
+fill-fields-requires c κs = (search (needs, fields-sound), (search (needs, fields-few), search (needs, fields-readable)))
+
+returns : tie.Need-returns
+returns c = search (needs, page-refuses, page-untouched)
+
+same-length : tie.Need-same-length
+same-length c = search needs
+
+returns-2 : tie.Need-returns-2
+returns-2 c = search (needs, page-answers, page-leaves)
+
+pub fill-spec : {M : Type 1} → statement M
+fill-spec =
+    tie.close
+    (tie.spec
+    slice-aggregate-list-fields
+    list-fields-requires
+    enum-known-number
+    cast-t11
+    enum-known-n
+    slice-aggregate-fill-fields
+    fill-fields-requires
+    returns
+    same-length
+    returns-2)

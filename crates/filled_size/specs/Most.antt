@@ -1,0 +1,19 @@
+-- How long what is filled in can get: so that no sum of sizes is too large for a number.
+use Prim.Native.Nat.{ℕ, _+_, _*_}
+use Rattle.paper.specs.Limits.{textBytes}
+
+-- the longest key is `    execution_context:`
+abbrev pub mostKey : ℕ
+mostKey = 22
+
+-- a line: its key, a space, a value of a text, LF
+abbrev pub mostLine : ℕ
+mostLine = mostKey + textBytes + 2
+
+-- an item has five lines
+abbrev pub mostItem : ℕ
+mostItem = 5 * mostLine
+
+-- an entry has eight lines, and for each access one line more and its items
+abbrev pub mostEntry : ℕ → ℕ
+mostEntry fields = 10 * mostLine + 2 * mostItem * fields

@@ -1,0 +1,157 @@
+-- Texts written in a loop: what is written and what is left make the whole.
+use mathlib.Core.Path.{_≡_, refl, _∙_}
+use mathlib.Core.List.{List, [], _++_, flatMap, append-assoc, append-nil}
+use Prim.Native.Nat.{ℕ, _+_, _-_, _*_, _^_, _<_, _≤_}
+use native.Mathlib.Omega.{arith}
+use mir.Syntax.{w64}
+use mir.Val as val
+use lib.ListN.{length}
+use Rattle.paper.specs.Listing.{principal}
+use Rattle.paper.specs.Page.{Field}
+use Rattle.paper.specs.Entries.{stretchesFrom, itemsOf, entriesOf}
+use Rattle.paper.specs.Filled.{writtenLine, itemText, entryText}
+use Rattle.file_fields.specs.Fields.{fieldSize, fieldAt, between, nextAt}
+use Rattle.file_fields.proofs.Between.{between-more, between-none}
+use Rattle.file_fields.proofs.Walking.{Walked, walked, walk-within, stretches-first, stretches-more, stretches-none}
+use Rattle.filled_lines.specs.Wrote.{Wrote}
+use Rattle.filled_lines.proofs.Writing.{left, over, wrote-none, wrote-length, wrote-on, first-room, wrote-within, last-room, wrote-fits}
+
+-- of `whole`, all but `rest` is written, up to `at`
+pub record Writing (whole rest old out : List ℕ) (at : ℕ) : Type 0 where
+  pub front : List ℕ
+  pub joins : whole ≡ front ++ rest
+  pub enough : length whole ≤ length old
+  pub done : Wrote front old out at
+
+begin : (whole rest old : List ℕ) → whole ≡ rest → length whole ≤ length old → Writing whole rest old old 0
+begin whole rest old e h = record { front = []; joins = e; enough = h; done = wrote-none old }
+
+module _ {whole rest old out : List ℕ} {at : ℕ} (w : Writing whole rest old out at) where
+  start : at ≤ length out
+  start = wrote-within (w .front) old out at (w .done)
+
+  same : length out ≡ length old
+  same = wrote-length (w .done)
+
+  finish : rest ≡ [] → Wrote whole old out at
+  finish e = let q : whole ≡ w .front = w .joins ∙ rw (e, append-nil) refl in rw q (w .done)
+
+  module _ (x others : List ℕ) (e : rest ≡ x ++ others) where
+    room : length x ≤ length (left out at)
+    room =
+        let h : length (w .front ++ (x ++ others)) ≤ length old = rw (← e, ← w .joins) (w .enough) in
+        first-room x others (left out at) (last-room (w .front) old out at (w .done) (x ++ others) h)
+
+    module _ (ys : List ℕ) (b : ℕ) (v : Wrote x (left out at) ys b) where
+      fits : length old * 1 < 2 ^ 63 → val.Fits w64 (at + b)
+      fits l = wrote-fits (w .front) x old out ys at b v (w .done) l
+
+      more : Writing whole others old (over out at ys) (at + b)
+      more = record { front = w .front ++ x; joins = w .joins ∙ rw (e, append-assoc) refl; enough = w .enough; done = wrote-on (w .done) v }
+
+-- ---- lines as they were written: those of the fields before number i are there
+
+abbrev pub LinesWritten : List ℕ → List ℕ → ℕ → ℕ → List ℕ → List ℕ → ℕ → Type 0
+LinesWritten t list n i old out at = Writing (flatMap writtenLine (between t list 0 n)) (flatMap writtenLine (between t list i n)) old out at
+
+module _ (t list : List ℕ) (n : ℕ) (old : List ℕ) where
+  pub lines-begin : length (flatMap writtenLine (between t list 0 n)) ≤ length old → LinesWritten t list n 0 old old 0
+  lines-begin h = begin (flatMap writtenLine (between t list 0 n)) (flatMap writtenLine (between t list 0 n)) old refl h
+
+  module _ (i : ℕ) (out : List ℕ) (at : ℕ) (w : LinesWritten t list n i old out at) where
+    pub lines-start : at ≤ length out
+    lines-start = start w
+
+    pub lines-length : length out ≡ length old
+    lines-length = same w
+
+    pub lines-done : n ≤ i → Wrote (flatMap writtenLine (between t list 0 n)) old out at
+    unfolding flatMap
+    lines-done h = finish w (rw (between-none t list i n h) refl)
+
+    module _ (h : i < n) where
+      line-next : flatMap writtenLine (between t list i n) ≡ writtenLine (fieldAt t list i) ++ flatMap writtenLine (between t list (i + 1) n)
+      unfolding flatMap
+      line-next = rw (between-more t list i n h) refl
+
+      pub lines-room : length (writtenLine (fieldAt t list i)) ≤ length (left out at)
+      lines-room = room w (writtenLine (fieldAt t list i)) (flatMap writtenLine (between t list (i + 1) n)) line-next
+
+      module _ (ys : List ℕ) (b : ℕ) (v : Wrote (writtenLine (fieldAt t list i)) (left out at) ys b) where
+        pub lines-fit : length old * 1 < 2 ^ 63 → val.Fits w64 (at + b)
+        lines-fit l = fits w (writtenLine (fieldAt t list i)) (flatMap writtenLine (between t list (i + 1) n)) line-next ys b v l
+
+        pub lines-again : LinesWritten t list n (i + 1) old (over out at ys) (at + b)
+        lines-again = more w (writtenLine (fieldAt t list i)) (flatMap writtenLine (between t list (i + 1) n)) line-next ys b v
+
+-- ---- stretches of fields, each as its text: those before number i are there
+
+pub record Walking (f : List Field → List ℕ) (p : ℕ) (t list : List ℕ) (to i : ℕ) (whole old out : List ℕ) (at : ℕ) : Type 0 where
+  pub walk : Walked list p i to
+  pub writing : Writing whole (flatMap f (stretchesFrom p (between t list i to))) old out at
+
+texts-begin : (f : List Field → List ℕ) (p : ℕ) (t list : List ℕ) (from to i : ℕ) (whole old : List ℕ)
+    → whole ≡ flatMap f (stretchesFrom p (between t list from to)) → from ≤ to → i ≡ nextAt list p from (to - from) → length whole ≤ length old
+    → Walking f p t list to i whole old old 0
+texts-begin f p t list from to i whole old q h e l =
+    let same-texts : whole ≡ flatMap f (stretchesFrom p (between t list i to)) = q ∙ rw (stretches-first list p from to i t h e) refl in
+    record { walk = walked list p from to i h e; writing = begin whole (flatMap f (stretchesFrom p (between t list i to))) old same-texts l }
+
+pub items-begin : (access : ℕ) (t list : List ℕ) (from to i : ℕ) (old : List ℕ) → i ≡ nextAt list (access + 1) from (to - from) → from ≤ to
+    → length (flatMap (itemText access) (itemsOf access (between t list from to))) ≤ length old
+    → Walking (itemText access) (access + 1) t list to i (flatMap (itemText access) (itemsOf access (between t list from to))) old old 0
+unfolding itemsOf
+items-begin access t list from to i old e h l =
+    texts-begin (itemText access) (access + 1) t list from to i (flatMap (itemText access) (itemsOf access (between t list from to))) old refl h e l
+
+pub entries-begin : (t list : List ℕ) (n i : ℕ) (old : List ℕ) → i ≡ nextAt list principal 0 (n - 0)
+    → length (flatMap entryText (entriesOf (between t list 0 n))) ≤ length old
+    → Walking entryText principal t list n i (flatMap entryText (entriesOf (between t list 0 n))) old old 0
+unfolding entriesOf
+entries-begin t list n i old e l =
+    texts-begin entryText principal t list 0 n i (flatMap entryText (entriesOf (between t list 0 n))) old refl (omega arith) e l
+
+-- a stretch ends within the list
+pub within-list : (list : List ℕ) (p i to j : ℕ) → i < to → j ≡ nextAt list p (i + 1) (to - (i + 1)) → fieldSize * to ≤ length list
+    → fieldSize * j ≤ length list
+within-list list p i to j h e l = omega (arith, walk-within list p i to j e h)
+
+module _ (f : List Field → List ℕ) (p : ℕ) (t list : List ℕ) (to i : ℕ) (whole old out : List ℕ) (at : ℕ)
+    (w : Walking f p t list to i whole old out at) where
+  pub texts-start : at ≤ length out
+  texts-start = start (w .writing)
+
+  pub texts-length : length out ≡ length old
+  texts-length = same (w .writing)
+
+  pub texts-done : to ≤ i → Wrote whole old out at
+  unfolding flatMap
+  texts-done h = finish (w .writing) (rw (stretches-none list p i to t h) refl)
+
+  module _ (h : i < to) (j : ℕ) (e : j ≡ nextAt list p (i + 1) (to - (i + 1))) where
+    text-next : flatMap f (stretchesFrom p (between t list i to)) ≡ f (between t list i j) ++ flatMap f (stretchesFrom p (between t list j to))
+    unfolding flatMap
+    text-next = rw (stretches-more list p i to j e t (w .walk) h) refl
+
+    texts-room : length (f (between t list i j)) ≤ length (left out at)
+    texts-room = room (w .writing) (f (between t list i j)) (flatMap f (stretchesFrom p (between t list j to))) text-next
+
+    module _ (ys : List ℕ) (b : ℕ) (v : Wrote (f (between t list i j)) (left out at) ys b) where
+      pub texts-fit : length old * 1 < 2 ^ 63 → val.Fits w64 (at + b)
+      texts-fit l = fits (w .writing) (f (between t list i j)) (flatMap f (stretchesFrom p (between t list j to))) text-next ys b v l
+
+      pub texts-again : Walking f p t list to j whole old (over out at ys) (at + b)
+      texts-again = record {
+        walk = walked list p (i + 1) to j (omega arith) e;
+        writing = more (w .writing) (f (between t list i j)) (flatMap f (stretchesFrom p (between t list j to))) text-next ys b v;
+      }
+
+-- `search` finds no text that is a variable
+module _ (t list : List ℕ) (i to j : ℕ) (whole old out : List ℕ) (at : ℕ) (h : i < to) where
+  pub next-item-room : (access : ℕ) → Walking (itemText access) (access + 1) t list to i whole old out at
+      → j ≡ nextAt list (access + 1) (i + 1) (to - (i + 1)) → length (itemText access (between t list i j)) ≤ length (left out at)
+  next-item-room access w e = texts-room (itemText access) (access + 1) t list to i whole old out at w h j e
+
+  pub next-entry-room : Walking entryText principal t list to i whole old out at → j ≡ nextAt list principal (i + 1) (to - (i + 1))
+      → length (entryText (between t list i j)) ≤ length (left out at)
+  next-entry-room w e = texts-room entryText principal t list to i whole old out at w h j e

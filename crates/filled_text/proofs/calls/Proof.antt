@@ -1,0 +1,52 @@
+-- The calls, then the returns.
+use Rattle.file_fields.proofs.Places.{call-default, return-default}
+use Rattle.filled_lines.proofs.Writing.{first-room, last-room, both-wrote}
+use Rattle.filled_text.proofs.Texts.{calls-room, calls-wrote}
+use borrow.Author.Needs.{needs}
+use Rattle.filled_text.proofs.calls.Statement.{statement}
+use Rattle.filled_text.proofs.calls.Tie as tie
+
+slice-aggregate-value-line : tie.Need-slice-aggregate-value-line
+slice-aggregate-value-line c = search needs
+
+value-line-requires : tie.Need-value-line-requires
+value-line-requires c κs = (search needs, (search (needs, call-default), search (needs, first-room, calls-room)))
+
+slice-aggregate-value-line-2 : tie.Need-slice-aggregate-value-line-2
+slice-aggregate-value-line-2 c = search needs
+
+sub-value-line : tie.Need-sub-value-line
+sub-value-line c = search needs
+
+part-value-line-start : tie.Need-part-value-line-start
+part-value-line-start c = search needs
+
+part-value-line-end : tie.Need-part-value-line-end
+part-value-line-end c = search needs
+
+value-line-requires-2 : tie.Need-value-line-requires-2
+value-line-requires-2 c κs = (search needs, (search (needs, return-default), search (needs, last-room, calls-room)))
+
+add-result : tie.Need-add-result
+add-result c = search needs
+
+same-length : tie.Need-same-length
+same-length c = search needs
+
+returns : tie.Need-returns
+returns c = search (needs, calls-wrote, both-wrote)
+
+pub calls-spec : {M : Type 1} → statement M
+calls-spec =
+    tie.close
+    (tie.spec
+    slice-aggregate-value-line
+    value-line-requires
+    slice-aggregate-value-line-2
+    sub-value-line
+    part-value-line-start
+    part-value-line-end
+    value-line-requires-2
+    add-result
+    same-length
+    returns)

@@ -1,0 +1,131 @@
+//! The whole reader, the page check alone, and the filler, on large texts.
+
+use crate::timing::{exchange, figure, Bench, Calls, Figure};
+use cases::large::{self, Large};
+use compare::lent::Value;
+use compare::wire::{Call, Function, Replies, Requests};
+use second::text::TEXT_LIMIT;
+use second::{filler, first_fault, quick, Refusal, TABLE_WORDS};
+use std::hint::black_box;
+
+/// All texts are timed so many times over: a machine may be busy for a while.
+const SWEEPS: usize = 3;
+
+const TEXT: u32 = 1;
+const TABLE: u32 = 2;
+const OUTPUT: u32 = 3;
+
+/// The figures of one text.
+struct Figures {
+    read: Figure,
+    page: Figure,
+    fill: Figure,
+}
+
+impl Figures {
+    fn least(self, other: Figures) -> Figures {
+        Figures {
+            read: self.read.least(other.read),
+            page: self.page.least(other.page),
+            fill: self.fill.least(other.fill),
+        }
+    }
+}
+
+pub fn rows(bench: &mut Bench) -> Result<(), String> {
+    let mut least = sweep(bench)?;
+    for _ in 1..SWEEPS {
+        let pairs = least.into_iter().zip(sweep(bench)?);
+        least = pairs.map(|(one, other)| one.least(other)).collect();
+    }
+    let bridge = &bench.bridge;
+    for (Large { name, .. }, figures) in large::texts().iter().zip(&least) {
+        figures.read.print(&format!("read: {name}"), bridge);
+        figures.page.print(&format!("page: {name}"), bridge);
+        figures.fill.print(&format!("fill: {name}"), bridge);
+    }
+    for (Large { name, .. }, figures) in large::texts().iter().zip(&least) {
+        let pair = [("read", &figures.read), ("fill", &figures.fill)];
+        Figure::print_proved(pair, &format!("both proved: {name}"), bridge);
+    }
+    Ok(())
+}
+
+fn sweep(bench: &mut Bench) -> Result<Vec<Figures>, String> {
+    let mut figures = Vec::new();
+    for large in large::texts() {
+        let mut lent = Requests::default();
+        lent.lend(TEXT, &large.text);
+        lent.lend(TABLE, &[1u16; TABLE_WORDS]);
+        lent.lend(OUTPUT, &[1u8; TEXT_LIMIT]);
+        exchange(&mut bench.bridge, lent)?;
+        figures.push(Figures {
+            read: read(bench, large)?,
+            page: page(bench, large)?,
+            fill: fill(bench, large)?,
+        });
+    }
+    Ok(figures)
+}
+
+/// The words must be the same too.
+fn read(bench: &mut Bench, large: &Large) -> Result<Figure, String> {
+    let mut table = vec![1; TABLE_WORDS];
+    let figure = one_call(bench, large, Function::Read, &[TEXT, TABLE], || {
+        let answer = quick::read(black_box(&large.text), black_box(&mut table));
+        Refusal::answer(answer.err()).packed()
+    })?;
+    same(bench, large, Function::Read, TABLE, &table)?;
+    Ok(figure)
+}
+
+fn page(bench: &mut Bench, large: &Large) -> Result<Figure, String> {
+    one_call(bench, large, Function::Page, &[TEXT], || {
+        Refusal::answer(first_fault(black_box(&large.text))).packed()
+    })
+}
+
+/// The bytes must be the same too.
+fn fill(bench: &mut Bench, large: &Large) -> Result<Figure, String> {
+    let mut output = vec![1; TEXT_LIMIT];
+    let figure = one_call(bench, large, Function::Fill, &[TEXT, OUTPUT], || {
+        let filling = quick::fill(black_box(&large.text), black_box(&mut output));
+        filler::answer(filling).packed()
+    })?;
+    same(bench, large, Function::Fill, OUTPUT, &output)?;
+    Ok(figure)
+}
+
+/// The figure of a function on what is lent in these slots.
+fn one_call(
+    bench: &mut Bench,
+    large: &Large,
+    function: Function,
+    slots: &[u32],
+    plain: impl FnMut() -> u64,
+) -> Result<Figure, String> {
+    let calls = Calls {
+        name: large.name.to_string(),
+        function,
+        all: &[Call::new(function, slots, &[])],
+    };
+    figure(bench, &calls, plain)
+}
+
+/// Whether the proved function, if it is there, left the same in this slot.
+fn same<T: Value>(
+    bench: &mut Bench,
+    large: &Large,
+    function: Function,
+    slot: u32,
+    plain: &[T],
+) -> Result<(), String> {
+    if !bench.bridge.has(function) {
+        return Ok(());
+    }
+    let mut show = Requests::default();
+    show.show(slot);
+    let replies = exchange(&mut bench.bridge, show)?;
+    let shown = Replies::new(&replies).shown()?;
+    shown.check(&format!("answers differ: {}", large.name), plain)
+}
