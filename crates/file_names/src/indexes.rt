@@ -41,7 +41,9 @@ pub struct Indexed {
 fn enter(t: &[u8], ix: &mut [usize], n: usize, start: usize, end: usize) -> bool
     requires { ⌜ namesAt + nameSize * (n + 1) ≤ length (now ix) ⌝ }
     ensures { λ r. ⌜ (r ≡ ltb (numbersIn (now (t .entry)) (now (ix .entry)) n (take (end - start) (drop start (now (t .entry))))) n) ⌝ }
-    ensures { λ r. ⌜ now (ix .exit) ≡ cond r (now (ix .entry)) (inserted (now (t .entry)) (now (ix .entry)) n start end (hashOf (multiplierIn (now (ix .entry))) (take (end - start) (drop start (now (t .entry)))))) ⌝ }
+    ensures { λ r. ⌜ now (ix .exit) ≡ cond r (now (ix .entry))
+        (inserted (now (t .entry)) (now (ix .entry)) n start end
+        (hashOf (multiplierIn (now (ix .entry))) (take (end - start) (drop start (now (t .entry)))))) ⌝ }
 {
     let name = text_bytes::part(t, start, end);
     let h = file_index::hash(ix[file_index::layout::MULTIPLIER_AT], name);
@@ -66,7 +68,8 @@ fn enter_domain(
     requires { ⌜ fieldSize * (i + 1) ≤ length (now list) ⌝ }
     requires { ⌜ Index (now t) (now ix) n (namesTo (namedAt one other) (now t) (now list) i) ⌝ }
     requires { ⌜ namesAt + nameSize * (n + length (namedAt one other (fieldAt (now t) (now list) i))) ≤ length (now ix) ⌝ }
-    ensures { λ r. ⌜ EnteredAs (now (t .entry)) (now (ix .exit)) (namesTo (namedAt one other) (now (t .entry)) (now (list .entry)) i) (namedAt one other (fieldAt (now (t .entry)) (now (list .entry)) i)) r ⌝ }
+    ensures { λ r. ⌜ EnteredAs (now (t .entry)) (now (ix .exit)) (namesTo (namedAt one other) (now (t .entry)) (now (list .entry)) i)
+        (namedAt one other (fieldAt (now (t .entry)) (now (list .entry)) i)) r ⌝ }
     ensures { λ _. ⌜ length (now (ix .exit)) ≡ length (now (ix .entry)) ⌝ }
 {
     if !is_either(place_of(list, i), one, other) {
@@ -93,7 +96,8 @@ fn enter_members(
     requires { ⌜ wellSpaced (fieldAt (now t) (now list) i) ≡ true ⌝ }
     requires { ⌜ Index (now t) (now ix) n (namesTo (membersNamed place) (now t) (now list) i) ⌝ }
     requires { ⌜ namesAt + nameSize * (n + length (membersNamed place (fieldAt (now t) (now list) i))) ≤ length (now ix) ⌝ }
-    ensures { λ r. ⌜ EnteredAs (now (t .entry)) (now (ix .exit)) (namesTo (membersNamed place) (now (t .entry)) (now (list .entry)) i) (membersNamed place (fieldAt (now (t .entry)) (now (list .entry)) i)) r ⌝ }
+    ensures { λ r. ⌜ EnteredAs (now (t .entry)) (now (ix .exit)) (namesTo (membersNamed place) (now (t .entry)) (now (list .entry)) i)
+        (membersNamed place (fieldAt (now (t .entry)) (now (list .entry)) i)) r ⌝ }
     ensures { λ _. ⌜ length (now (ix .exit)) ≡ length (now (ix .entry)) ⌝ }
 {
     if place_of(list, i) != place {

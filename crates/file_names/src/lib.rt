@@ -77,7 +77,9 @@ fn index_maps(
     requires { ⌜ Fresh (now t) (now «subjects_ix») mostDomains ⌝ }
     requires { ⌜ Fresh (now t) (now «functions_ix») mostMembers ⌝ }
     ensures { λ r. ⌜ MapsTo (now (t .entry)) (between (now (t .entry)) (now (list .entry)) 0 n) (now («objects_ix» .exit)) (now («subjects_ix» .exit)) (now («functions_ix» .exit)) r ⌝ }
-    ensures { λ _. ⌜ (length (now («objects_ix» .exit)) ≡ length (now («objects_ix» .entry))) × (length (now («subjects_ix» .exit)) ≡ length (now («subjects_ix» .entry))) × (length (now («functions_ix» .exit)) ≡ length (now («functions_ix» .entry))) ⌝ }
+    ensures { λ _. ⌜ (length (now («objects_ix» .exit)) ≡ length (now («objects_ix» .entry)))
+        × (length (now («subjects_ix» .exit)) ≡ length (now («subjects_ix» .entry)))
+        × (length (now («functions_ix» .exit)) ≡ length (now («functions_ix» .entry))) ⌝ }
 {
     let objects = index_domains(t, list, n, rows::OBJECT_NAME, rows::OBJECT_NAME, objects_ix);
     let subjects = index_domains(
@@ -112,7 +114,8 @@ pub fn index_names(
     requires { ⌜ Fresh (now t) (now «subjects_ix») mostDomains ⌝ }
     requires { ⌜ Fresh (now t) (now «functions_ix») mostMembers ⌝ }
     ensures { λ r. ⌜ r .twice ≡ namedTwice (between (now (t .entry)) (now (list .entry)) 0 n) ⌝ }
-    ensures { λ r. ⌜ (r .twice ≡ 0 → Maps (now (t .entry)) (between (now (t .entry)) (now (list .entry)) 0 n) (now («objects_ix» .exit)) (now («subjects_ix» .exit)) (now («functions_ix» .exit)) (r .objects) (r .subjects) (r .functions)) ⌝ }
+    ensures { λ r. ⌜ (r .twice ≡ 0 → Maps (now (t .entry)) (between (now (t .entry)) (now (list .entry)) 0 n) (now («objects_ix» .exit))
+        (now («subjects_ix» .exit)) (now («functions_ix» .exit)) (r .objects) (r .subjects) (r .functions)) ⌝ }
     ensures { λ r. ⌜ (r .twice ≡ 0 → Distinct (between (now (t .entry)) (now (list .entry)) 0 n)) ⌝ }
 {
     let domains = domains_line(t, list, n);

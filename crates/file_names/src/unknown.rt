@@ -68,7 +68,9 @@ fn is_unknown(
     requires { ⌜ namesAt + nameSize * objects ≤ length (now «objects_ix») ⌝ }
     requires { ⌜ namesAt + nameSize * subjects ≤ length (now «subjects_ix») ⌝ }
     requires { ⌜ namesAt + nameSize * functions ≤ length (now «functions_ix») ⌝ }
-    ensures { λ r. ⌜ r ≡ unknownBy (knownIn (now (t .entry)) (now («subjects_ix» .entry)) subjects false) (knownIn (now (t .entry)) (now («objects_ix» .entry)) objects false) (knownIn (now (t .entry)) (now («functions_ix» .entry)) functions true) (soughtAt (placeIn (now (list .entry)) i)) (valueIn (now (t .entry)) (now (list .entry)) i) ⌝ }
+    ensures { λ r. ⌜ r ≡ unknownBy (knownIn (now (t .entry)) (now («subjects_ix» .entry)) subjects false)
+        (knownIn (now (t .entry)) (now («objects_ix» .entry)) objects false) (knownIn (now (t .entry)) (now («functions_ix» .entry)) functions true)
+        (soughtAt (placeIn (now (list .entry)) i)) (valueIn (now (t .entry)) (now (list .entry)) i) ⌝ }
 {
     let v = value_of(t, list, i);
     let s = inside(v);

@@ -10,7 +10,7 @@ use file_names::MEMBERS_SIZE;
 use file_names::Names;
 use file_names::index_names;
 use file_names::unknown::unknown_line;
-use file_table::fill;
+use file_table::set_words;
 use file_table::write_table;
 use paper::Reading;
 use paper::limit;
@@ -179,6 +179,6 @@ pub fn read(text: &[u8], table: &mut [u16]) -> Reading
             line: refusal::NO_LINE,
         };
     }
-    fill(&mut table[..limit::TABLE_WORDS], 0);
+    set_words(&mut table[..limit::TABLE_WORDS], 0);
     read_text(text, table)
 }

@@ -32,7 +32,7 @@ const ENTRIES_SIZE: usize = layout::DESCRIPTORS_AT - layout::ENTRIES_AT;
 const PRIVILEGES_SIZE: usize = limit::TABLE_WORDS - layout::ENTRIES_AT;
 
 // One number in every word.
-pub fn fill(out: &mut [u16], d: u16)
+pub fn set_words(out: &mut [u16], d: u16)
     ensures { λ r. ⌜ now (out .exit) ≡ replicate (length (now (out .entry))) d ⌝ }
 {
     let mut i: usize = 0;
@@ -55,7 +55,7 @@ fn write_members(t: &[u8], list: &[usize], n: usize, place: usize, out: &mut [u1
     let mut i = file_fields::next_at(list, place, 0, n);
     while i < n {
         let end = at + file_fields::values::element_count(file_fields::value_of(t, list, i));
-        fill(&mut out[at..end], d);
+        set_words(&mut out[at..end], d);
         at = end;
         d += 1;
         i = file_fields::next_at(list, place, i + 1, n);
@@ -125,7 +125,9 @@ fn write_entries(
     requires { ⌜ Ready subjectName (now t) (now list) n (now «subjects_ix») subjects (now «functions_ix») functions ⌝ }
     requires { ⌜ Bounded (between (now t) (now list) 0 n) ⌝ }
     requires { ⌜ now out ≡ replicate entriesSize 0 ⌝ }
-    ensures { λ r. ⌜ Filled entrySize (length (entriesOf (between (now (t .entry)) (now (list .entry)) 0 n))) (entryBlocks (between (now (t .entry)) (now (list .entry)) 0 n) (entriesOf (between (now (t .entry)) (now (list .entry)) 0 n))) (now (out .entry)) (now (out .exit)) r ⌝ }
+    ensures { λ r. ⌜ Filled entrySize (length (entriesOf (between (now (t .entry)) (now (list .entry)) 0 n)))
+        (entryBlocks (between (now (t .entry)) (now (list .entry)) 0 n) (entriesOf (between (now (t .entry)) (now (list .entry)) 0 n)))
+        (now (out .entry)) (now (out .exit)) r ⌝ }
 {
     let mut k: usize = 0;
     let mut from = file_fields::next_at(list, rows::PRINCIPAL, 0, n);
@@ -170,7 +172,9 @@ fn write_items(
     requires { ⌜ (from ≤ to) × (to ≤ n) ⌝ }
     requires { ⌜ now out ≡ replicate (length (now out)) 0 ⌝ }
     requires { ⌜ descriptorSize * length (itemsOf access (between (now t) (now list) from to)) ≤ length (now out) ⌝ }
-    ensures { λ r. ⌜ Filled descriptorSize (length (itemsOf access (between (now (t .entry)) (now (list .entry)) from to))) (itemBlocks (between (now (t .entry)) (now (list .entry)) 0 n) access (itemsOf access (between (now (t .entry)) (now (list .entry)) from to))) (now (out .entry)) (now (out .exit)) r ⌝ }
+    ensures { λ r. ⌜ Filled descriptorSize (length (itemsOf access (between (now (t .entry)) (now (list .entry)) from to)))
+        (itemBlocks (between (now (t .entry)) (now (list .entry)) 0 n) access
+        (itemsOf access (between (now (t .entry)) (now (list .entry)) from to))) (now (out .entry)) (now (out .exit)) r ⌝ }
 {
     let mut d: usize = 0;
     let mut i = file_fields::next_at(list, access + 1, from, to);
@@ -216,7 +220,9 @@ fn write_access(
     requires { ⌜ (from ≤ to) × (to ≤ n) ⌝ }
     requires { ⌜ now out ≡ replicate (length (now out)) 0 ⌝ }
     requires { ⌜ descriptorSize * descriptorsOf access (between (now t) (now list) from to) ≤ length (now out) ⌝ }
-    ensures { λ r. ⌜ Filled descriptorSize (descriptorsOf access (between (now (t .entry)) (now (list .entry)) from to)) (accessBlocks (between (now (t .entry)) (now (list .entry)) 0 n) access (between (now (t .entry)) (now (list .entry)) from to)) (now (out .entry)) (now (out .exit)) r ⌝ }
+    ensures { λ r. ⌜ Filled descriptorSize (descriptorsOf access (between (now (t .entry)) (now (list .entry)) from to))
+        (accessBlocks (between (now (t .entry)) (now (list .entry)) 0 n) access (between (now (t .entry)) (now (list .entry)) from to))
+        (now (out .entry)) (now (out .exit)) r ⌝ }
 {
     let v = file_fields::value_at(t, list, access, from, to, b"all", b"[]");
     if text_lists::is_all(v) {
@@ -267,7 +273,9 @@ fn write_accesses(
     requires { ⌜ (from ≤ to) × (to ≤ n) ⌝ }
     requires { ⌜ now out ≡ replicate (length (now out)) 0 ⌝ }
     requires { ⌜ descriptorSize * descriptorsIn (between (now t) (now list) from to) ≤ length (now out) ⌝ }
-    ensures { λ r. ⌜ Filled descriptorSize (descriptorsIn (between (now (t .entry)) (now (list .entry)) from to)) (ownBlocks (between (now (t .entry)) (now (list .entry)) 0 n) (between (now (t .entry)) (now (list .entry)) from to)) (now (out .entry)) (now (out .exit)) r ⌝ }
+    ensures { λ r. ⌜ Filled descriptorSize (descriptorsIn (between (now (t .entry)) (now (list .entry)) from to))
+        (ownBlocks (between (now (t .entry)) (now (list .entry)) 0 n) (between (now (t .entry)) (now (list .entry)) from to)) (now (out .entry))
+        (now (out .exit)) r ⌝ }
 {
     let reads = write_access(
         t,
@@ -313,7 +321,9 @@ fn write_descriptors(
     requires { ⌜ Ready objectName (now t) (now list) n (now «objects_ix») objects (now «functions_ix») functions ⌝ }
     requires { ⌜ Bounded (between (now t) (now list) 0 n) ⌝ }
     requires { ⌜ now out ≡ replicate descriptorsSize 0 ⌝ }
-    ensures { λ r. ⌜ Filled descriptorSize (total descriptorsIn (entriesOf (between (now (t .entry)) (now (list .entry)) 0 n))) (descriptorBlocks (between (now (t .entry)) (now (list .entry)) 0 n) (entriesOf (between (now (t .entry)) (now (list .entry)) 0 n))) (now (out .entry)) (now (out .exit)) r ⌝ }
+    ensures { λ r. ⌜ Filled descriptorSize (total descriptorsIn (entriesOf (between (now (t .entry)) (now (list .entry)) 0 n)))
+        (descriptorBlocks (between (now (t .entry)) (now (list .entry)) 0 n) (entriesOf (between (now (t .entry)) (now (list .entry)) 0 n)))
+        (now (out .entry)) (now (out .exit)) r ⌝ }
 {
     let mut d: usize = 0;
     let mut from = file_fields::next_at(list, rows::PRINCIPAL, 0, n);
@@ -356,7 +366,8 @@ fn write_privileges(
     requires { ⌜ Bounded (between (now t) (now list) 0 n) ⌝ }
     requires { ⌜ (length (now out) ≡ privilegesSize) × (now out ≡ replicate (length (now out)) 0) ⌝ }
     ensures { λ r. ⌜ r ≡ length (entriesOf (between (now (t .entry)) (now (list .entry)) 0 n)) ⌝ }
-    ensures { λ r. ⌜ (now (out .exit) ≡ privilegeBlocks (between (now (t .entry)) (now (list .entry)) 0 n)) × (length (privilegeBlocks (between (now (t .entry)) (now (list .entry)) 0 n)) ≡ privilegesSize) ⌝ }
+    ensures { λ r. ⌜ (now (out .exit) ≡ privilegeBlocks (between (now (t .entry)) (now (list .entry)) 0 n))
+        × (length (privilegeBlocks (between (now (t .entry)) (now (list .entry)) 0 n)) ≡ privilegesSize) ⌝ }
 {
     let entries = write_entries(
         t,

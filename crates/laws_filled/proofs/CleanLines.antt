@@ -1,4 +1,4 @@
--- The filled text has "no skipped line, no trailing space, ends with LF": keys and values end in no space, and each field is a line with a key.
+-- The filled text is clean: keys and values end in no space, and each field is a line with a key, so none is skipped.
 use mathlib.Core.Path.{_≡_, refl, ap, _∙_}
 use mathlib.Core.List.{List, [], _∷_, _++_, flatMap, append-nil}
 use mathlib.Core.Bool.{Bool, true, false, not, _&&_, _||_, false≢true}
@@ -127,7 +127,7 @@ unfolding textOf
 fields-clean [] o r = absurd (none-first o)
 fields-clean (f ∷ fs) o r = clean-of (flatMap writtenLine (f ∷ fs)) (text-some f fs) (text-ends f fs) (text-clean 0 false 0 (f ∷ fs) o r)
 
--- ---- "no skipped line, no trailing space, ends with LF"
+-- ---- the whole of it
 
 -- the filled text of every text that the reader accepts
 pub filled-clean : (t : List ℕ) (fs : List Field) → fileOf t ≡ fields fs → Clean (filledText fs)

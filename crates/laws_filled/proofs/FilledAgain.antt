@@ -1,4 +1,4 @@
--- "Filling twice is filling once: the filled text of a filled text is itself, byte for byte, and is never refused with 31 where the first was not."
+-- Filling twice is filling once: the filled text of a filled text is itself, byte for byte, and is refused with 30 alone.
 use mathlib.Core.Path.{_≡_, refl, sym, ap, _∙_}
 use mathlib.Core.List.{List}
 use mathlib.Core.Bool.{cond}
@@ -63,7 +63,7 @@ module _ (t out : List ℕ) (size : ℕ) (h : fillAnswer t out ≡ Written size)
   pub no-room-again : length next < size → fillAnswer (take size (fillLeaves t out)) next ≡ Unfilled 30 noLine
   no-room-again small = answer-again ∙ rw (lt-ltb (length next) size small) refl
 
-  -- "the filled text of a filled text is itself, byte for byte"
+  -- the filled text of a filled text is itself, byte for byte
   pub itself-again : size ≤ length next → take size (fillLeaves (take size (fillLeaves t out)) next) ≡ take size (fillLeaves t out)
   itself-again room =
       let k : fillAnswer t next ≡ Written size = sym (same-filling .0) ∙ filled-again room in

@@ -1,5 +1,4 @@
--- "Nothing else is lost: the filled text has the names and identifiers of the maps in the same order
--- (numbers of domains, functions and objects stay)."
+-- "all else keeps its order": the filled text has the names and identifiers of the maps as the file has them, so their numbers stay.
 use mathlib.Core.Path.{_≡_, refl, sym, ap, _∙_}
 use mathlib.Core.List.{List, [], map}
 use mathlib.Core.Bool.{Bool, true, false, cond}
@@ -49,7 +48,7 @@ same-bytes Objects d fs gs s =
 same-bytes Subjects d fs gs s =
     domain-bytes subjectName d gs ∙ ap (λ (names : List (List ℕ)). getD names d []) (s .subjectDomains) ∙ sym (domain-bytes subjectName d fs)
 
--- ---- "the filled text has the names and identifiers of the maps in the same order"
+-- ---- the filled text of a file
 
 module _ (t : List ℕ) (fs : List Field) (accepted : fileOf t ≡ fields fs) where
   names-filled : SameNames fs (filledFields fs)
@@ -88,7 +87,7 @@ module _ (t out : List ℕ) (size : ℕ) (h : fillAnswer t out ≡ Written size)
       let q : gs ≡ filledFields (filled .fs) = cc in
       rw (p, q) (names-filled t (filled .fs) (filled .accepted))
 
-  -- "numbers of domains .. stay": each has the same name in both texts, byte for byte; where there is none, both are empty
+  -- the numbers of domains stay: each has the same name in both texts, byte for byte; where there is none, both are empty
   pub name-stays : (which : Map) (d : ℕ) → lookupAnswer (take size (fillLeaves t out)) which d .bytes ≡ lookupAnswer t which d .bytes
   unfolding lookupAnswer
   name-stays which d =

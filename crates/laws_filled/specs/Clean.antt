@@ -15,7 +15,7 @@ use Rattle.paper.specs.Rules.{domainsAt, identifiersAt}
 unfoldable pub lastByte : List ℕ → ℕ
 lastByte bs = getD bs (length bs - 1) 0
 
--- "no skipped line, no trailing space, ends with LF": every line ends with LF, and so the last one
+-- "Skipped lines vanish", each line is "ended by LF", and so the last one, and none ends with a space
 pub record Clean (t : List ℕ) : Type 0 where
   pub some : 1 ≤ length t
   pub feed : lastByte t ≡ lineFeed
@@ -23,7 +23,8 @@ pub record Clean (t : List ℕ) : Type 0 where
   pub counted : allOf (λ l. not (skipped (l .text))) (lines t) ≡ true
   pub trimmed : allOf (λ l. not (eqb (lastByte (l .text)) space)) (lines t) ≡ true
 
--- two files have "the names and identifiers of the maps in the same order", so that "numbers of domains, functions and objects stay"
+-- "all else keeps its order": two files have the same names and identifiers in their maps, so every number of a domain, an object or a
+-- function is that of the same name
 pub record SameNames (fs gs : List Field) : Type 0 where
   pub objectDomains : domainsAt objectName gs ≡ domainsAt objectName fs
   pub subjectDomains : domainsAt subjectName gs ≡ domainsAt subjectName fs

@@ -7,14 +7,14 @@ use Rattle.file_read.proofs.read.Tie as tie
 returns : tie.Need-returns
 returns c = search (needs, short-answers, short-leaves)
 
-slice-relend-prefix-fill : tie.Need-slice-relend-prefix-fill
-slice-relend-prefix-fill c = search needs
+slice-relend-prefix-set-words : tie.Need-slice-relend-prefix-set-words
+slice-relend-prefix-set-words c = search needs
 
-slice-aggregate-fill : tie.Need-slice-aggregate-fill
-slice-aggregate-fill c = search (needs, front-count)
+slice-aggregate-set-words : tie.Need-slice-aggregate-set-words
+slice-aggregate-set-words c = search (needs, front-count)
 
-fill-requires : tie.Need-fill-requires
-fill-requires c κs = search needs
+set-words-requires : tie.Need-set-words-requires
+set-words-requires c κs = search needs
 
 read-text-requires : tie.Need-read-text-requires
 read-text-requires c κs = search (needs, front-zero, front-room)
@@ -30,9 +30,9 @@ read-spec =
     tie.close
     (tie.spec
     returns
-    slice-relend-prefix-fill
-    slice-aggregate-fill
-    fill-requires
+    slice-relend-prefix-set-words
+    slice-aggregate-set-words
+    set-words-requires
     read-text-requires
     same-length
     returns-2)

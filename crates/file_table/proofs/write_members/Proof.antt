@@ -27,20 +27,20 @@ element-count-requires c κs = search needs
 add-end : tie.Need-add-end Inv-loop μ-loop
 add-end c = search (needs, members-end-fits)
 
-mul-fill : tie.Need-mul-fill Inv-loop μ-loop
-mul-fill c = search needs
+mul-set-words : tie.Need-mul-set-words Inv-loop μ-loop
+mul-set-words c = search needs
 
-sub-fill : tie.Need-sub-fill Inv-loop μ-loop
-sub-fill c = search needs
+sub-set-words : tie.Need-sub-set-words Inv-loop μ-loop
+sub-set-words c = search needs
 
-part-fill-start : tie.Need-part-fill-start Inv-loop μ-loop
-part-fill-start c = search needs
+part-set-words-start : tie.Need-part-set-words-start Inv-loop μ-loop
+part-set-words-start c = search needs
 
-part-fill-end : tie.Need-part-fill-end Inv-loop μ-loop
-part-fill-end c = search (needs, members-end-within)
+part-set-words-end : tie.Need-part-set-words-end Inv-loop μ-loop
+part-set-words-end c = search (needs, members-end-within)
 
-fill-requires : tie.Need-fill-requires Inv-loop μ-loop
-fill-requires c κs = search needs
+set-words-requires : tie.Need-set-words-requires Inv-loop μ-loop
+set-words-requires c κs = search needs
 
 add-d : tie.Need-add-d Inv-loop μ-loop
 add-d c = search needs
@@ -74,11 +74,11 @@ write-members-spec =
     value-of-requires
     element-count-requires
     add-end
-    mul-fill
-    sub-fill
-    part-fill-start
-    part-fill-end
-    fill-requires
+    mul-set-words
+    sub-set-words
+    part-set-words-start
+    part-set-words-end
+    set-words-requires
     add-d
     add-next-at
     next-at-requires-2

@@ -5,8 +5,8 @@ use Prim.Native.Nat.{_≤_, _-_}
 use lib.ListN.{length, drop, replicate}
 use Rattle.file_table.proofs.Domains.{filled-more, filled-all}
 use borrow.Author.Needs.{needs}
-use Rattle.file_table.proofs.fill.Statement.{statement}
-use Rattle.file_table.proofs.fill.Tie as tie
+use Rattle.file_table.proofs.set_words.Statement.{statement}
+use Rattle.file_table.proofs.set_words.Tie as tie
 
 abbrev Inv-loop : tie.InvT-loop
 Inv-loop out₀ d i₀ out i = (i ≤ length out₀) × (length out ≡ length out₀) × (out ≡ replicate i d ++ drop i out₀)
@@ -38,8 +38,8 @@ same-length c = search needs
 returns : tie.Need-returns Inv-loop μ-loop
 returns c = search (needs, filled-all)
 
-pub fill-spec : {M : Type 1} → statement M
-fill-spec =
+pub set-words-spec : {M : Type 1} → statement M
+set-words-spec =
     tie.close
     (tie.spec
     Inv-loop
