@@ -33,7 +33,7 @@ enum {
     DOVETENON_TEXT_BYTES = 65536    /* of a text, and of a filled one, at most */
 };
 
-/* The numbers of refusals: class 1 of every answer. */
+/* The numbers of refusals: class 1 of every answer but a name. */
 enum {
     DOVETENON_TABLE_TOO_SHORT = 1,    /* table under 16,384 words */
     DOVETENON_TEXT_TOO_LONG = 2,      /* text over 65,536 bytes */
@@ -283,6 +283,49 @@ static inline uint32_t dovetenon_filling_line(uint64_t filling)
 static inline uint32_t dovetenon_filling_size(uint64_t filling)
 {
     return (uint32_t)(filling >> 32);
+}
+
+/* ---- Name lookup */
+
+/* The maps. */
+enum {
+    DOVETENON_OBJECT_MAP = 1,
+    DOVETENON_SUBJECT_MAP = 2
+};
+
+/* Where the name of a domain stands in a policy text: the domains of each map
+   are numbered from 0 in file order, as the table has them.
+
+   The name is text[start] up to, not including, text[start + length]: no copy,
+   and no zero byte behind it. There is none where dovetenon_read refuses the
+   text with 2 to 11, where the number is not below that map's count, and where
+   map is neither of the two.
+
+   It reads the whole text at each call, and wants 1 MB of stack. */
+uint64_t dovetenon_name(const uint8_t *text, size_t text_len,
+                        uint16_t map, size_t domain);
+
+/* The classes of a name, and what else it tells. */
+enum {
+    DOVETENON_NAME_NONE = 1,  /* no name: start and length are 0 */
+    DOVETENON_NAME_FOUND = 2  /* where it starts, and its length */
+};
+
+static inline uint32_t dovetenon_name_class(uint64_t name)
+{
+    return (uint32_t)(name >> 16 & 0xFFFF);
+}
+
+/* Of a name that is found: where it starts in the text, .. */
+static inline uint32_t dovetenon_name_start(uint64_t name)
+{
+    return (uint32_t)(name >> 32);
+}
+
+/* .. and how many bytes it has, 1 to 64. */
+static inline uint16_t dovetenon_name_length(uint64_t name)
+{
+    return (uint16_t)(name & 0xFFFF);
 }
 
 #ifdef __cplusplus

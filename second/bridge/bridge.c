@@ -21,6 +21,7 @@
 
    A call is ten numbers: the function, the slots of its three stretches and its
    six other parameters, both in the order of the header, 0 where it has fewer.
+   A parameter of 64 bits is two of them, its low half first.
    Time runs through its calls so many times over, inside this process, so that
    no pipe is measured.
 
@@ -36,6 +37,7 @@
 #pragma weak dovetenon_page
 #pragma weak dovetenon_read
 #pragma weak dovetenon_fill
+#pragma weak dovetenon_name
 
 /* Of the C library, for x86-64 Linux. Its headers are not at hand everywhere. */
 struct timespec { long seconds, nanoseconds; };
@@ -48,7 +50,7 @@ void *memcpy(void *to, const void *from, size_t length);
 size_t strlen(const char *text);
 _Noreturn void _exit(int status);
 
-enum { WELL_FORMED, JUDGE, JUDGE_KNOWN, OVERLAP, PAGE, READ, FILL, FUNCTIONS };
+enum { WELL_FORMED, JUDGE, JUDGE_KNOWN, OVERLAP, PAGE, READ, FILL, NAME, FUNCTIONS };
 
 static const struct {
     const char *name;
@@ -61,6 +63,7 @@ static const struct {
     [PAGE] = {"page", (void (*)(void))dovetenon_page},
     [READ] = {"read", (void (*)(void))dovetenon_read},
     [FILL] = {"fill", (void (*)(void))dovetenon_fill},
+    [NAME] = {"name", (void (*)(void))dovetenon_name},
 };
 
 static _Noreturn void fail(const char *fault)
@@ -218,9 +221,12 @@ static uint64_t answer(const struct call *call)
     case READ:
         return dovetenon_read(text(slot[0]), text_len(slot[0]),
                               words(slot[1]), words_len(slot[1]));
-    default:
+    case FILL:
         return dovetenon_fill(text(slot[0]), text_len(slot[0]),
                               text(slot[1]), text_len(slot[1]));
+    default:
+        return dovetenon_name(text(slot[0]), text_len(slot[0]), (uint16_t)number[0],
+                              (size_t)number[2] << 32 | number[1]);
     }
 }
 

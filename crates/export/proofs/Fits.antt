@@ -1,21 +1,26 @@
--- The numbers of a report have room in its packed number: a well-formed table has few entries, and the report's stack is short.
-use Prim.Native.Nat.{ℕ, zero, suc, _≤_}
+-- The numbers of a report and of a name have room in the packed number: a well-formed table has few entries, the report's stack is short, and so is a name.
+use Prim.Native.Nat.{ℕ, zero, suc, _<_, _≤_}
 use mathlib.Core.Path.{_≡_, refl}
 use mathlib.Core.Bool.{Bool, true, false, cond, _||_}
 use mathlib.Core.List.{List}
 use native.Mathlib.Omega.{arith}
-use lib.Dec.{ltb}
+use lib.Dec.{eqb, ltb}
 use lib.ListN.{length}
 use Rattle.paper.specs.declared.Report.{Report}
 use Rattle.paper.specs.declared.Report.the-variants.{Clear, Clash, Unreported}
+use Rattle.paper.specs.declared.Map.the-variants.{Objects, Subjects}
+use Rattle.paper.specs.Common.{isEmpty}
 use Rattle.paper.specs.Limits.{mostEntries, witnessWords}
 use Rattle.paper.specs.Policy.{Entry}
 use Rattle.paper.specs.Table.{policyIn, wellFormed}
 use Rattle.paper.specs.Overlap.{isUser, witnessUid, Says}
-use Rattle.paper.specs.Promises.{reportRefusal, ReportedUnless, Reported}
-use Rattle.paper.specs.Answers.{ReportFits}
+use Rattle.paper.specs.Lookup.{Stretch, front}
+use Rattle.paper.specs.Promises.{reportRefusal, ReportedUnless, Reported, lookupAnswer, lookupNumbered}
+use Rattle.paper.specs.Answers.{nameParts, PartsFit, ReportFits}
 use Rattle.laws_table.proofs.Formed.{formed}
 use Rattle.laws_table.proofs.Held.{formed-proper}
+use Rattle.file_lookup.specs.Names.{Bounded}
+use Rattle.file_lookup.proofs.Found.{front-bounded, name-bounded}
 
 uid-few : (a b : Entry) → witnessUid a b ≤ 1
 unfolding witnessUid
@@ -55,3 +60,23 @@ module _ (table old new : List ℕ) where
   pub report-fits : (r : Report) → Reported table old new r → ReportFits r
   unfolding Reported
   report-fits r h = unless-fits (reportRefusal table old) refl r h
+
+-- ---- a name
+
+bounded-fits : (t : List ℕ) (s : Stretch) → Bounded t s → PartsFit (nameParts s)
+unfolding nameParts
+bounded-fits t s b = (class-fits (isEmpty (s .bytes)), omega (arith, b .short), omega (arith, b .low))
+  where
+    class-fits : (empty : Bool) → cond empty 1 2 < 65536
+    class-fits true = omega arith
+    class-fits false = omega arith
+
+-- of every text, map's number and domain's number
+pub name-fits : (t : List ℕ) (number d : ℕ) → PartsFit (nameParts (lookupNumbered t number d))
+unfolding lookupNumbered
+name-fits t number d = bounded-fits t _ (numbered (eqb number 1) (eqb number 2))
+  where
+    numbered : (objects subjects : Bool) → Bounded t (cond objects (lookupAnswer t Objects d) (cond subjects (lookupAnswer t Subjects d) front))
+    numbered true subjects = name-bounded t Objects d
+    numbered false true = name-bounded t Subjects d
+    numbered false false = front-bounded t

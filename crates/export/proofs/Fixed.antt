@@ -7,7 +7,7 @@ use Rattle.paper.specs.Promises.{readAnswer, readLeaves, fillAnswer, fillLeaves
 use Rattle.overlap.proofs.Agree.{reports-fixed}
 use Rattle.export.specs.Told.{ReportedAs}
 
--- the table test, the judge and the page: the promise is an equation
+-- the table test, the judge, the page and name lookup: the promise is an equation
 pub one-answer : {A : Type 0} {answer r r′ : A} → r ≡ answer → r′ ≡ answer → r ≡ r′
 one-answer e e′ = e ∙ sym e′
 

@@ -1,7 +1,10 @@
 -- What the exported functions need, as plain laws.
 use mathlib.Core.Path.{_≡_, refl, ap, _∙_}
-use Prim.Native.Nat.{ℕ, _+_, _*_, _<_, _≤_}
+use mathlib.Core.List.{List}
+use Prim.Native.Nat.{ℕ, _+_, _-_, _*_, _<_, _≤_}
 use native.Mathlib.Omega.{arith}
+use lib.ListN.{length}
+use borrow.Author.Tests.{eq-eqb, ne-eqb}
 use Rattle.paper.specs.declared.Verdict.{Verdict}
 use Rattle.paper.specs.declared.Verdict.the-variants.{Inside, Granted, Violation, Unjudged}
 use Rattle.paper.specs.declared.Report.{Report}
@@ -10,7 +13,15 @@ use Rattle.paper.specs.declared.Reading.{Reading}
 use Rattle.paper.specs.declared.Reading.the-variants.{Accepted, Unread}
 use Rattle.paper.specs.declared.Filling.{Filling}
 use Rattle.paper.specs.declared.Filling.the-variants.{Written, Unfilled}
-use Rattle.paper.specs.Answers.{clashRest, packed, readingPacked, fillingPacked, verdictPacked, reportPacked, ReportFits}
+use Rattle.paper.specs.declared.Map.{Map}
+use Rattle.paper.specs.declared.Map.the-variants.{Objects, Subjects}
+use Rattle.paper.specs.Lookup.{front}
+use Rattle.paper.specs.Promises.{lookupAnswer, lookupNumbered}
+use Rattle.paper.specs.Answers.{clashRest, packed, readingPacked, fillingPacked, verdictPacked, reportPacked, nameParts, namePacked, ReportFits}
+use Rattle.laws.proofs.Stretches.{length-taken}
+use Rattle.file_lookup.specs.declared.Place.{Place}
+use Rattle.file_lookup.specs.Place.{bytesIn, stretchIn, InText}
+use Rattle.file_lookup.proofs.Found.{empty-front}
 
 -- ---- parts to a number
 
@@ -105,3 +116,40 @@ packs-reading a answer r p e = p ∙ ap readingPacked e
 
 pub packs-filling : (a answer : Filling) (r : ℕ) → r ≡ fillingPacked a → a ≡ answer → r ≡ fillingPacked answer
 packs-filling a answer r p e = p ∙ ap fillingPacked e
+
+-- ---- the number of a name
+
+-- where there is none
+pub packs-front : (r : ℕ) → r ≡ packed (record { class = 1; value = 0; rest = 0 }) → r ≡ namePacked front
+unfolding namePacked nameParts front
+packs-front r h = h
+
+module _ (t : List ℕ) (which : Map) (d : ℕ) (place : Place) (e : stretchIn t place ≡ lookupAnswer t which d) (lies : InText t place) where
+  name-length : length (bytesIn t place) ≡ place .end - place .start
+  name-length = length-taken t (place .start) (place .end - place .start) (omega (arith, lies .ordered, lies .within))
+
+  pub packs-none : (r : ℕ) → place .end - place .start ≡ 0 → r ≡ packed (record { class = 1; value = 0; rest = 0 }) → r ≡ namePacked (lookupAnswer t which d)
+  packs-none r z h =
+      let none : lookupAnswer t which d ≡ front = empty-front t which d (rw (← e) (name-length ∙ z)) in
+      rw none (packs-front r h)
+
+  pub packs-found : (r : ℕ) → (place .end - place .start ≡ 0 → ⊥) → r ≡ packed (record { class = 2; value = place .end - place .start; rest = place .start })
+      → r ≡ namePacked (lookupAnswer t which d)
+  unfolding namePacked nameParts
+  packs-found r z h = rw (← e, name-length, ne-eqb (place .end - place .start) 0 z) h
+
+-- ---- of a map by its number
+
+module _ (t : List ℕ) (number d r : ℕ) where
+  pub by-objects : number ≡ 1 → r ≡ namePacked (lookupAnswer t Objects d) → r ≡ namePacked (lookupNumbered t number d)
+  unfolding lookupNumbered
+  by-objects o h = rw (eq-eqb number 1 o) h
+
+  module _ (other : number ≡ 1 → ⊥) where
+    pub by-subjects : number ≡ 2 → r ≡ namePacked (lookupAnswer t Subjects d) → r ≡ namePacked (lookupNumbered t number d)
+    unfolding lookupNumbered
+    by-subjects s h = rw (ne-eqb number 1 other, eq-eqb number 2 s) h
+
+    pub by-none : (number ≡ 2 → ⊥) → r ≡ packed (record { class = 1; value = 0; rest = 0 }) → r ≡ namePacked (lookupNumbered t number d)
+    unfolding lookupNumbered
+    by-none third h = rw (ne-eqb number 1 other, ne-eqb number 2 third) (packs-front r h)

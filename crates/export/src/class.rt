@@ -18,3 +18,8 @@ pub const ACCEPTED: u16 = 2;
 
 // Of a filling.
 pub const WRITTEN: u16 = 2;
+
+// Of name lookup.
+pub const NAME_NONE: u16 = 1;
+
+pub const NAME_FOUND: u16 = 2;

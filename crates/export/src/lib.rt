@@ -1,9 +1,11 @@
 // The proved functions for C and Rust: include/dovetenon.h says what each answers, and crates/paper/specs/Answers.antt how
 // an answer is one number.
 pub mod class;
+pub mod map;
 
 use judge::Ids;
 use paper::Filling;
+use paper::Map;
 use paper::Reading;
 use paper::Report;
 use paper::Verdict;
@@ -11,7 +13,8 @@ ghost use mathlib.Core.Path.{_≡_};
 ghost use Prim.Native.Nat.{_≤_, _<_};
 ghost use Rattle.paper.specs.Table.{wellFormed, policyIn};
 ghost use Rattle.paper.specs.Promises.{textPage, readingOf, readAnswer, readLeaves, fillAnswer, fillLeaves, judgeEvent, judgeAnswer};
-ghost use Rattle.paper.specs.Answers.{clashRest, packed, readingPacked, fillingPacked, verdictPacked, reportPacked, ReportFits};
+ghost use Rattle.paper.specs.Promises.{lookupAnswer, lookupNumbered};
+ghost use Rattle.paper.specs.Answers.{clashRest, packed, readingPacked, fillingPacked, verdictPacked, reportPacked, namePacked, ReportFits};
 ghost use Rattle.export.specs.Told.{ReportedAs};
 
 // Where the class of an answer begins, and the rest: bits 16 and 32.
@@ -177,4 +180,30 @@ pub extern "C" fn dovetenon_fill(text: &[u8], out: &mut [u8]) -> u64
     ensures { λ r. ⌜ now (out .exit) ≡ fillLeaves (now (text .entry)) (now (out .entry)) ⌝ }
 {
     packed_filling(file_fill::fill(text, out))
+}
+
+// The name of a domain, or that there is none.
+fn packed_name(text: &[u8], map: Map, domain: usize) -> u64
+    ensures { λ r. ⌜ r ≡ namePacked (lookupAnswer (now (text .entry)) map domain) ⌝ }
+{
+    let place = file_lookup::name_place(text, map, domain);
+    let start = place.start;
+    let length = place.end - start;
+    if length == 0 {
+        return whole(class::NAME_NONE, 0, 0);
+    }
+    whole(class::NAME_FOUND, length as u16, start as u32)
+}
+
+#[no_mangle]
+pub extern "C" fn dovetenon_name(text: &[u8], map: u16, domain: usize) -> u64
+    ensures { λ r. ⌜ r ≡ namePacked (lookupNumbered (now (text .entry)) map domain) ⌝ }
+{
+    if map == map::OBJECTS {
+        return packed_name(text, Map::Objects, domain);
+    }
+    if map == map::SUBJECTS {
+        return packed_name(text, Map::Subjects, domain);
+    }
+    whole(class::NAME_NONE, 0, 0)
 }

@@ -23,7 +23,7 @@ fn put(s: &[u8], out: &mut [u8]) -> usize
     i
 }
 
-fn put_byte(b: u8, out: &mut [u8]) -> usize
+pub fn put_byte(b: u8, out: &mut [u8]) -> usize
     requires { ⌜ Fits (b ∷ []) (now out) ⌝ }
     ensures { λ r. ⌜ Wrote (b ∷ []) (now (out .entry)) (now (out .exit)) r ⌝ }
 {

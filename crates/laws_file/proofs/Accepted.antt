@@ -14,7 +14,7 @@ use Rattle.paper.specs.Page.{Field, Outcome, fields, fault, pageOf}
 use Rattle.paper.specs.Rules.{overLimit, namedTwice, unknownName, unboundVariable, twinPrincipal, unlessLine, ruled}
 use Rattle.paper.specs.Promises.{textPage, heldToRules, fileOf, readingOf}
 use Rattle.paper.specs.declared.Reading.the-variants.{Accepted}
-use Rattle.laws.proofs.Tests.{le-or-lt}
+use Rattle.laws.proofs.Tests.{le-or-lt, same-or-not}
 use Rattle.laws_page.specs.First.{Smallest}
 use Rattle.laws_page.specs.Right.{Ascending}
 use Rattle.laws_page.proofs.Theorems.{smallest}
@@ -106,12 +106,12 @@ module _ (t : List ℕ) where
   -- ---- 4, 9 and 5: the page
 
   -- each is the first line of the page at fault
-  of-page : (r : Refusal) (m : ℕ) → turnOf r ≡ 4 → AtFault t r m → (k : ℕ) × (pageOf t ≡ fault k m)
+  of-page : (r : Refusal) (m : ℕ) → turnOf r ≡ 4 → AtFault t r m → pageOf t ≡ fault (numberOf r) m
   of-page text-too-long m e a = absurd (omega arith)
   of-page bad-byte m e a = absurd (omega arith)
-  of-page layout m e a = (4, answers t 4 m a)
-  of-page empty-field m e a = (9, answers t 9 m a)
-  of-page malformed-scalar m e a = (5, answers t 5 m a)
+  of-page layout m e a = answers t 4 m a
+  of-page empty-field m e a = answers t 9 m a
+  of-page malformed-scalar m e a = answers t 5 m a
   of-page over-limit m e a = absurd (omega arith)
   of-page named-twice m e a = absurd (omega arith)
   of-page unknown-name m e a = absurd (omega arith)
@@ -122,7 +122,7 @@ module _ (t : List ℕ) where
     clear-page : (fs : List Field) → pageOf t ≡ fields fs → Clear 5
     clear-page fs e r m h a =
         ⊎-elim
-        (λ (p : 4 ≤ turnOf r). let q = of-page r m (omega arith) a in not-fields fs (q .0) m (sym e ∙ q .1))
+        (λ (p : 4 ≤ turnOf r). not-fields fs (numberOf r) m (sym e ∙ of-page r m (omega arith) a))
         (λ (p : turnOf r < 4). clear r m p a)
         (le-or-lt 4 (turnOf r))
 
@@ -132,8 +132,7 @@ module _ (t : List ℕ) where
       number = n;
       at-fault = a;
       smallest = λ s l q b.
-          let w = of-page s l (q ∙ e) b in
-          let z : fault k m ≡ fault (w .0) l = sym p ∙ w .1 in
+          let z : fault k m ≡ fault (numberOf s) l = sym p ∙ of-page s l (q ∙ e) b in
           let v : m ≡ l = cc in
           omega arith;
       sooner = λ s l q b. clear s l (omega arith) b;
@@ -261,6 +260,34 @@ accepted-exactly t = (λ e. only (fileOf t) (rightly t) e, λ h. all (fileOf t) 
 -- "The line returned is the smallest at fault", and no number that comes sooner in the reader's order has one
 pub refused-smallest : (t : List ℕ) (k m : ℕ) → fileOf t ≡ fault k m → RefusedRightly t k m
 refused-smallest t k m e = rw e at (rightly t)
+
+-- one line is at fault of one number of a turn
+one-number : (t : List ℕ) (r s : Refusal) (m : ℕ) → turnOf r ≡ turnOf s → AtFault t r m → AtFault t s m → numberOf r ≡ numberOf s
+one-number t r s m e a b =
+    ⊎-elim
+    (λ (q : turnOf s ≡ 4).
+    let z : fault (numberOf r) m ≡ fault (numberOf s) m = sym (of-page t r m (e ∙ q) a) ∙ of-page t s m q b in
+    cc)
+    (λ (q : turnOf s ≡ 4 → ⊥). ap numberOf (alone s r q e))
+    (same-or-not (turnOf s) 4)
+
+-- so a refusal that is right is the one that is given
+pub refused-exactly : (t : List ℕ) (k m : ℕ) → RefusedRightly t k m → fileOf t ≡ fault k m
+refused-exactly t k m h = go (fileOf t) (rightly t)
+  where
+    go : (o : Outcome) → Rightly t o → o ≡ fault k m
+    go (fields fs) r = absurd (r .0 (h .refusal) m (omega (arith, turns (h .refusal) .1)) (h .at-fault))
+    go (fault j l) r =
+        let up : turnOf (h .refusal) ≤ turnOf (r .refusal) =
+        ⊎-elim (λ p. p) (λ p. absurd (h .sooner (r .refusal) l p (r .at-fault))) (le-or-lt (turnOf (h .refusal)) (turnOf (r .refusal))) in
+        let down : turnOf (r .refusal) ≤ turnOf (h .refusal) =
+        ⊎-elim (λ p. p) (λ p. absurd (r .sooner (h .refusal) m p (h .at-fault))) (le-or-lt (turnOf (r .refusal)) (turnOf (h .refusal))) in
+        let turn : turnOf (r .refusal) ≡ turnOf (h .refusal) = omega arith in
+        let under : m ≤ l = h .smallest (r .refusal) l turn (r .at-fault) in
+        let over : l ≤ m = r .smallest (h .refusal) m (sym turn) (h .at-fault) in
+        let line : l ≡ m = omega arith in
+        let number : j ≡ k = sym (r .number) ∙ one-number t (r .refusal) (h .refusal) m turn (rw line at (r .at-fault)) (h .at-fault) ∙ h .number in
+        cc
 
 -- a text has fields exactly when no line is at fault of 4, of 9 or of 5
 pub page-exactly : (t : List ℕ)

@@ -5,7 +5,9 @@ use Rattle.paper.specs.declared.Reading.the-variants.{Accepted, Unread}
 use Rattle.paper.specs.declared.Filling.the-variants.{Written, Unfilled}
 use Rattle.paper.specs.declared.Verdict.the-variants.{Inside, Granted, Violation, Unjudged}
 use Rattle.paper.specs.declared.Report.the-variants.{Clear, Clash, Unreported}
-use Rattle.paper.specs.Answers.{readingPacked, fillingPacked, verdictPacked, reportPacked, unpacked, packed, clashRest}
+use Rattle.paper.specs.Answers.{readingPacked, fillingPacked, verdictPacked, reportPacked, nameParts, namePacked, unpacked, packed, clashRest}
+use Rattle.paper.specs.Common.{bytes}
+use Rattle.paper.specs.Lookup.{Stretch}
 
 readings : map readingPacked (Unread 4 12 ∷ Unread 2 0 ∷ Unread 4 65537 ∷ Accepted ∷ []) ≡ 0xC00010004 ∷ 0x10002 ∷ 0x1000100010004 ∷ 0x20000 ∷ []
 unfolding readingPacked packed
@@ -23,6 +25,12 @@ reports :
     map reportPacked (Unreported 40 ∷ Clash 0 1 2 0 0 ∷ Clash 126 127 32 1 0 ∷ Clear ∷ []) ≡ 0x10028 ∷ 0x0002010000020000 ∷ 0x01207F7E00020000 ∷ 0x30000 ∷ []
 unfolding reportPacked packed clashRest
 reports = refl
+
+names :
+    map namePacked (record { start = 0; bytes = [] } ∷ record { start = 20; bytes = bytes "Meter" } ∷ record { start = 65535; bytes = bytes "A" } ∷ [])
+    ≡ 0x10000 ∷ 0x1400020005 ∷ 0xFFFF00020001 ∷ []
+unfolding namePacked nameParts packed
+names = refl
 
 parts-again :
     map unpacked (0xC00010004 ∷ 0x4007F ∷ 0x01207F7E00020000 ∷ 0 ∷ [])

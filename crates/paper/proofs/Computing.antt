@@ -21,7 +21,8 @@ use Rattle.paper.specs.Verdict.{isCode, targetsOf, targetNumber, targetL
 use Rattle.paper.specs.Overlap.{entryOfPolicy, isUser, witnessUid, witnessLeft}
 use Rattle.paper.specs.Filled.{keyLine, bareLine, writtenLine, valueLine, contextText, itemText, accessText, entryText, filledText}
 use Rattle.paper.specs.Lookup.{front, stretchOf, nameAmong}
-use Rattle.paper.specs.Promises.{textPage, fileOf, readAnswer, readLeaves, writtenIn, fillAnswer, fillLeaves, accessFor, judgeEvent, judgeAnswer, reportRefusal, Reported, lookupAnswer}
+use Rattle.paper.specs.Promises.{textPage, fileOf, readAnswer, readLeaves, writtenIn, fillAnswer, fillLeaves, accessFor, judgeEvent, judgeAnswer, reportRefusal, Reported, lookupAnswer, lookupNumbered}
+use Rattle.paper.specs.Program.{lastDigits, decimal, refusalLine, programWrites, programSize, programLeaves}
 
 unfoldable pub computing : Unit {0}
 unfolding flatMap allOf anyOf upTo countUp same isFrontOf isOne among numberIn onPiece cut mayStand badByteLine onLine withByte linesFrom column skipped
@@ -37,5 +38,6 @@ unfolding flatMap allOf anyOf upTo countUp same isFrontOf isOne among numberIn o
     wellFormed swallowing firstEquals matches topLiesIn sortFits entryMatches allocatedSortFits fitsAllocated isAll isAnyone fitsStatic contextFitsObject grants
     descriptorGrants someDescriptorGrants isCode targetsOf targetNumber targetListed targetDomain insideOneDomain entryGrants byEntries verdictOf entryOfPolicy
     isUser witnessUid witnessLeft keyLine bareLine writtenLine valueLine contextText itemText accessText entryText filledText front stretchOf nameAmong textPage
-    fileOf readAnswer readLeaves writtenIn fillAnswer fillLeaves accessFor judgeEvent judgeAnswer reportRefusal Reported lookupAnswer
+    fileOf readAnswer readLeaves writtenIn fillAnswer fillLeaves accessFor judgeEvent judgeAnswer reportRefusal Reported lookupAnswer lookupNumbered
+    lastDigits decimal refusalLine programWrites programSize programLeaves
 computing = tt

@@ -16,6 +16,7 @@ pub mod Refused
 pub mod ReaderEdges
 pub mod FillerEdges
 pub mod LookupEdges
+pub mod ProgramEdges
 pub mod JudgeEdges
 pub mod Matching
 pub mod AnswerNumbers

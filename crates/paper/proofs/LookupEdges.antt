@@ -7,7 +7,7 @@ use Rattle.paper.specs.declared.Map.the-variants.{Objects, Subjects}
 use Rattle.paper.specs.Common.{bytes}
 use Rattle.paper.specs.Page.{fault}
 use Rattle.paper.specs.Lookup.{Stretch, front as lookupFront}
-use Rattle.paper.specs.Promises.{fileOf, lookupAnswer}
+use Rattle.paper.specs.Promises.{fileOf, lookupAnswer, lookupNumbered}
 use Rattle.paper.proofs.Computing.{computing}
 use Rattle.paper.proofs.Texts.{Trial, maps}
 use Rattle.paper.proofs.Refused.{refused, shortest}
@@ -33,3 +33,10 @@ found-below-the-count :
     ≡ record { start = 20; bytes = bytes "A" } ∷ front ∷ record { start = 57; bytes = bytes "B" } ∷ front ∷ front ∷ front ∷ []
 unfolding computing
 found-below-the-count = refl
+
+-- the maps are 1 and 2, and no other number is a map's
+found-by-number :
+    map (λ n. lookupNumbered one n 0) (0 ∷ 1 ∷ 2 ∷ 3 ∷ 65535 ∷ [])
+    ≡ front ∷ record { start = 20; bytes = bytes "A" } ∷ record { start = 57; bytes = bytes "B" } ∷ front ∷ front ∷ []
+unfolding computing
+found-by-number = refl

@@ -1,8 +1,9 @@
 -- Packing loses nothing: the parts of a packed answer are read off again, so two answers with one packed number are equal; and 0 is none of them.
 use Prim.Native.Nat.{ℕ, _+_, _*_, _/_, _%_, _<_}
 use mathlib.Core.Path.{_≡_, refl, sym, ap, _∙_}
-use mathlib.Core.Bool.{cond}
+use mathlib.Core.Bool.{Bool, true, false, cond}
 use lib.Dec.{eqb}
+use lib.ListN.{length}
 use native.Mathlib.Omega.{arith}
 use Rattle.paper.specs.declared.Reading.{Reading}
 use Rattle.paper.specs.declared.Reading.the-variants.{Accepted, Unread}
@@ -12,8 +13,10 @@ use Rattle.paper.specs.declared.Verdict.{Verdict}
 use Rattle.paper.specs.declared.Verdict.the-variants.{Inside, Granted, Violation, Unjudged}
 use Rattle.paper.specs.declared.Report.{Report}
 use Rattle.paper.specs.declared.Report.the-variants.{Clear, Clash, Unreported}
+use Rattle.paper.specs.Common.{isEmpty}
+use Rattle.paper.specs.Lookup.{Stretch}
 use Rattle.paper.specs.Answers.{Parts, readingParts, fillingParts, verdictParts, clashRest, reportParts}
-use Rattle.paper.specs.Answers.{packed, readingPacked, fillingPacked, verdictPacked, reportPacked, unpacked, PartsFit, ClashFits, ReportFits}
+use Rattle.paper.specs.Answers.{packed, readingPacked, fillingPacked, verdictPacked, reportPacked, nameParts, namePacked, unpacked, PartsFit, ClashFits, ReportFits}
 
 -- ---- any parts
 
@@ -148,3 +151,11 @@ unfolding reportPacked packed
 report-not-zero (Unreported number) e = omega arith
 report-not-zero (Clash lower higher depth uid gid) e = omega arith
 report-not-zero Clear e = omega arith
+
+pub name-not-zero : (s : Stretch) → namePacked s ≡ 0 → ⊥
+unfolding namePacked nameParts packed
+name-not-zero s e = go (isEmpty (s .bytes)) e
+  where
+    go : (b : Bool) → length (s .bytes) + cond b 1 2 * 65536 + s .start * 4294967296 ≡ 0 → ⊥
+    go true k = omega arith
+    go false k = omega arith

@@ -2,6 +2,8 @@
 -- "Where an answer is an enum, a definition gives this paper's number and values for each of its cases. The promises use this definition."
 use Prim.Native.Nat.{ℕ, _+_, _*_, _/_, _%_, _<_, _≤_}
 use mathlib.Core.Path.{_≡_}
+use mathlib.Core.Bool.{cond}
+use lib.ListN.{length}
 use Rattle.paper.specs.declared.Reading.{Reading}
 use Rattle.paper.specs.declared.Reading.the-variants.{Accepted, Unread}
 use Rattle.paper.specs.declared.Filling.{Filling}
@@ -10,7 +12,9 @@ use Rattle.paper.specs.declared.Verdict.{Verdict}
 use Rattle.paper.specs.declared.Verdict.the-variants.{Inside, Granted, Violation, Unjudged}
 use Rattle.paper.specs.declared.Report.{Report}
 use Rattle.paper.specs.declared.Report.the-variants.{Clear, Clash, Unreported}
+use Rattle.paper.specs.Common.{isEmpty}
 use Rattle.paper.specs.Text.{noLine}
+use Rattle.paper.specs.Lookup.{Stretch}
 
 -- ---- the parts of an answer
 
@@ -52,6 +56,10 @@ reportParts (Unreported number) = refused number noLine
 reportParts (Clash lower higher depth uid gid) = record { class = 2; value = 0; rest = clashRest lower higher depth uid }
 reportParts Clear = record { class = 3; value = 0; rest = 0 }
 
+-- name lookup: how long the name is and where it starts; class 1 for "an empty stretch at the front"
+unfoldable pub nameParts : Stretch → Parts
+nameParts s = record { class = cond (isEmpty (s .bytes)) 1 2; value = length (s .bytes); rest = s .start }
+
 -- ---- an answer as one number, as include/dovetenon.h lays it out. No class is 0, so that 0 is no answer at all
 
 -- bits 0 to 15 the value, bits 16 to 31 the class, bits 32 to 63 the rest
@@ -73,6 +81,10 @@ verdictPacked v = packed (verdictParts v)
 -- the overlap report's
 unfoldable pub reportPacked : Report → ℕ
 reportPacked r = packed (reportParts r)
+
+-- name lookup's
+unfoldable pub namePacked : Stretch → ℕ
+namePacked s = packed (nameParts s)
 
 -- its parts again, as the functions of include/dovetenon.h take them
 unfoldable pub unpacked : ℕ → Parts

@@ -24,3 +24,4 @@ pub mod Filled
 pub mod Lookup
 pub mod Answers
 pub mod Promises
+pub mod Program

@@ -1,5 +1,6 @@
 -- Name lookup (document 01, "Numbers that come back", last paragraph).
-use Prim.Native.Nat.{ℕ}
+use Prim.Native.Nat.{ℕ, _+_}
+use mathlib.Core.Path.{_≡_}
 use mathlib.Core.List.{List, []}
 use mathlib.Core.Bool.{cond}
 use lib.Dec.{ltb}
@@ -36,3 +37,8 @@ nameAmong names d = cond (ltb d (length names)) (stretchOf (getD names d noField
 abbrev pub nameIn : Map → ℕ → Outcome → Stretch
 nameIn which d (fields file) = nameAmong (fieldsAt (namesOf which) file) d
 nameIn which d (fault number line) = front
+
+-- "the very stretch of the lent text": bytes that lie where the stretch does in what was lent, and so many. Where bytes lie is a block of memory
+-- and a place in it
+unfoldable pub VeryStretch : ℕ × ℕ → ℕ × ℕ → List ℕ → Stretch → Type 0
+VeryStretch lent lies held s = (lies .0 ≡ lent .0) × (lies .1 ≡ lent .1 + s .start) × (held ≡ s .bytes)

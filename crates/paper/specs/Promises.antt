@@ -17,6 +17,7 @@ use Rattle.paper.specs.declared.Verdict.the-variants.{Unjudged}
 use Rattle.paper.specs.declared.Report.{Report}
 use Rattle.paper.specs.declared.Report.the-variants.{Unreported}
 use Rattle.paper.specs.declared.Map.{Map}
+use Rattle.paper.specs.declared.Map.the-variants.{Objects, Subjects}
 use Rattle.paper.specs.Common.{within}
 use Rattle.paper.specs.Limits.{textBytes, tableWords, mostFrames, witnessWords}
 use Rattle.paper.specs.Text.{noLine, badByteLine}
@@ -28,7 +29,7 @@ use Rattle.paper.specs.Match.{Moment}
 use Rattle.paper.specs.Verdict.{verdictOf}
 use Rattle.paper.specs.Overlap.{Says}
 use Rattle.paper.specs.Filled.{filledText}
-use Rattle.paper.specs.Lookup.{Stretch, nameIn}
+use Rattle.paper.specs.Lookup.{Stretch, front, nameIn}
 
 -- ---- a text: its fields, or its refusal, 2 to 11
 
@@ -136,3 +137,7 @@ Reported table old new r = ReportedUnless (reportRefusal table old) (policyIn ta
 -- the stretch that name lookup answers with
 unfoldable pub lookupAnswer : List ℕ → Map → ℕ → Stretch
 lookupAnswer t which d = nameIn which d (fileOf t)
+
+-- the same by the map's number, as a caller in C has it: 1 the object map, 2 the subject map. Another number is no map's, so no domain is below its count
+unfoldable pub lookupNumbered : List ℕ → ℕ → ℕ → Stretch
+lookupNumbered t which d = cond (eqb which 1) (lookupAnswer t Objects d) (cond (eqb which 2) (lookupAnswer t Subjects d) front)

@@ -334,6 +334,16 @@ fn replay_filling(file: &[u8], at: &mut usize, tally: Tally) -> Tally {
     tally.with(false)
 }
 
+// A text, the numbers of a map and a domain, and where the name stands.
+fn replay_name(file: &[u8], at: &mut usize, tally: Tally) -> Tally {
+    let n = long(file, at) as usize;
+    let text = stretch(file, at, n);
+    let map = short(file, at);
+    let domain = wide(file, at) as usize;
+    let answer = export::dovetenon_name(text, map, domain);
+    tally.with(answer == wide(file, at))
+}
+
 // What the cases of a file are.
 enum Cases {
     Trials,
@@ -342,6 +352,7 @@ enum Cases {
     Pages,
     Readings,
     Fillings,
+    Names,
 }
 
 fn replay_case(cases: Cases, file: &[u8], at: &mut usize, tally: Tally) -> Tally {
@@ -352,6 +363,7 @@ fn replay_case(cases: Cases, file: &[u8], at: &mut usize, tally: Tally) -> Tally
         Cases::Pages => replay_page(file, at, tally),
         Cases::Readings => replay_reading(file, at, tally),
         Cases::Fillings => replay_filling(file, at, tally),
+        Cases::Names => replay_name(file, at, tally),
     }
 }
 
@@ -416,5 +428,11 @@ fn main() {
         b"fill.cases",
         Cases::Fillings,
         b" stored texts filled out, ",
+    );
+    replay(
+        &mut room,
+        b"name.cases",
+        Cases::Names,
+        b" stored names looked up, ",
     );
 }

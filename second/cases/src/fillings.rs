@@ -19,6 +19,20 @@ const SHORT: usize = 500;
 /// How many short texts there are.
 const SHORT_TEXTS: usize = 72;
 
+/// What a short text can be refused with: for a line of it, then by the rules
+/// over the whole file.
+pub const REFUSALS: [u16; 9] = [
+    BYTE,
+    LAYOUT,
+    SCALAR,
+    EMPTY,
+    COUNT,
+    TWICE,
+    UNKNOWN,
+    UNBOUND,
+    SAME_PRINCIPAL,
+];
+
 pub fn all(seed: u64) -> Vec<Filling> {
     let example = EXAMPLE.as_bytes();
     let mut all: Vec<Filling> = rooms(example).map(|room| (example.to_vec(), room)).into();
@@ -47,30 +61,33 @@ fn exact(text: Vec<u8>) -> Filling {
 /// Every second short text is refused, with each number in turn; the others
 /// have an entry.
 fn short(case: usize, dice: &mut Dice) -> Filling {
-    let of_lines = [BYTE, LAYOUT, SCALAR, EMPTY];
-    let of_rules = [COUNT, TWICE, UNKNOWN, UNBOUND, SAME_PRINCIPAL];
-    let refusals = [&of_lines[..], &of_rules].concat();
     let turn = case / 2;
     let number = match case % 2 {
         0 => 0,
-        _ => refusals[turn % refusals.len()],
+        _ => REFUSALS[turn % REFUSALS.len()],
     };
+    let text = short_text(dice, number);
+    let room = rooms(&text)[turn % 4];
+    (text, room)
+}
+
+/// A short text that is refused with this number, or, where it is 0, one that
+/// is taken and has an entry.
+pub fn short_text(dice: &mut Dice, number: u16) -> Vec<u8> {
     let is_so = |text: &[u8]| match policy_of(text) {
         Ok(policy) => number == 0 && !policy.entries.is_empty(),
         Err(refusal) => refusal.number == number,
     };
-    let text = loop {
+    loop {
         let text = match number {
             0 => texts::good(dice),
-            _ if of_rules.contains(&number) => texts::against_rules(dice),
+            _ if texts::RULES.contains(&number) => texts::against_rules(dice),
             _ => texts::damaged(dice),
         };
         if text.len() <= SHORT && is_so(&text) {
-            break text;
+            return text;
         }
-    };
-    let room = rooms(&text)[turn % 4];
-    (text, room)
+    }
 }
 
 /// A file for each way to put a context. The other fields of its entry take

@@ -1,4 +1,5 @@
-//! Cases for the second program: texts, events and tables from a seed.
+//! Cases for the second program: texts, questions about them, events and tables
+//! from a seed.
 //!
 //! The same seed gives the same cases on every machine. Values come from
 //! small pools, so that matches, clashes, grants and repeats happen often.
@@ -12,6 +13,7 @@ pub mod fillings;
 pub mod full;
 pub mod large;
 pub mod limits;
+pub mod names;
 pub mod readings;
 pub mod stored;
 pub mod tables;

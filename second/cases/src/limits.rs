@@ -9,6 +9,11 @@ pub const LIMITS: usize = DRAFT_LIMITS + 3;
 /// How many of them a draft can show; the others are about whole texts.
 pub const DRAFT_LIMITS: usize = 20;
 
+/// Some of those: the domains of each map, and a domain's name.
+pub const OBJECT_DOMAINS: usize = 0;
+pub const SUBJECT_DOMAINS: usize = 1;
+pub const NAME: usize = 8;
+
 /// Those about whole texts: its length, that of the filled one, and that of a
 /// text of blank lines.
 pub const LONG_TEXT: usize = DRAFT_LIMITS;
@@ -20,15 +25,15 @@ pub fn draft(limit: usize, past: bool) -> (Draft, u16) {
     let more = usize::from(past);
     let mut draft = base();
     let number = match limit % DRAFT_LIMITS {
-        0 => domains(&mut draft.objects, 128 + more),
-        1 => domains(&mut draft.subjects, 128 + more),
+        OBJECT_DOMAINS => domains(&mut draft.objects, 128 + more),
+        SUBJECT_DOMAINS => domains(&mut draft.subjects, 128 + more),
         2 => members(&mut draft.objects, 1_024 + more, "GLOBAL|m|1|o"),
         3 => members(&mut draft.subjects, 1_024 + more, "m|f"),
         4 => entries(&mut draft, 128 + more),
         5 => elements(&mut draft.entries[0].context, 16 + more),
         6 => object_elements(&mut draft, 16 + more),
         7 => descriptors(&mut draft, 256 + more),
-        8 => name(&mut draft, 64 + more),
+        NAME => name(&mut draft, 64 + more),
         9 => variable(&mut draft, 64 + more),
         10 => identifier(&mut draft, 128 + more),
         11 => line_number(&mut draft, past),

@@ -5,7 +5,7 @@
 
 use crate::dice::Dice;
 use crate::events::{self, OwnEvent};
-use crate::{fillings, readings, tables, texts};
+use crate::{fillings, names, readings, tables, texts};
 use second::{decode, fill, filler, first_fault, judge, overlap, read, Refusal, TABLE_WORDS};
 
 /// The codes of the trials' operations.
@@ -21,7 +21,7 @@ const SEED: u64 = 2_026;
 pub const UNTOUCHED: u8 = 7;
 
 /// Each file's name and its bytes.
-pub fn files() -> [(&'static str, Vec<u8>); 6] {
+pub fn files() -> [(&'static str, Vec<u8>); 7] {
     [
         ("trials.cases", trials()),
         ("judge.cases", judge_cases()),
@@ -29,6 +29,7 @@ pub fn files() -> [(&'static str, Vec<u8>); 6] {
         ("page.cases", page_cases()),
         ("read.cases", read_cases()),
         ("fill.cases", fill_cases()),
+        ("name.cases", name_cases()),
     ]
 }
 
@@ -223,6 +224,19 @@ fn fill_cases() -> Vec<u8> {
         put_u32(&mut out, room as u32);
         put_u64(&mut out, filler::answer(filling).packed());
         put_bytes(&mut out, &output[..filling.unwrap_or(0)]);
+    }
+    out
+}
+
+fn name_cases() -> Vec<u8> {
+    let all = names::all(SEED + 5);
+    let mut out = Vec::new();
+    put_u32(&mut out, all.len() as u32);
+    for (text, question) in all {
+        put_bytes(&mut out, &text);
+        put_u16(&mut out, question.map);
+        put_u64(&mut out, question.domain as u64);
+        put_u64(&mut out, question.answer(&text).packed());
     }
     out
 }

@@ -65,7 +65,7 @@ pub fn damaged(dice: &mut Dice) -> Vec<u8> {
 }
 
 /// The numbers of the rules over the whole file, in their order.
-const RULES: [u16; 5] = [6, 7, 8, 10, 11];
+pub const RULES: [u16; 5] = [6, 7, 8, 10, 11];
 
 /// A text whose page is in order, with faults against the rules over the whole
 /// file: one or several at once, so that their order and lines count.

@@ -2,6 +2,7 @@
 //! README says they do.
 
 use cases::events::OwnEvent;
+use cases::names::Question;
 use cases::stored::{files, runs, UNTOUCHED};
 use cases::{fillings, readings};
 use second::answer::REFUSED;
@@ -22,7 +23,7 @@ fn stored_files_are_made_again_byte_for_byte() {
 
 #[test]
 fn stored_files_are_small() {
-    let limits = [1_000, 159_000, 150_000, 100_000, 150_000, 299_000];
+    let limits = [1_000, 159_000, 150_000, 100_000, 150_000, 299_000, 50_000];
     for ((name, bytes), limit) in files().iter().zip(limits) {
         assert!(bytes.len() < limit, "{name}: {}", bytes.len());
     }
@@ -215,6 +216,42 @@ fn fill_cases_replay() {
     for needed in [-65_537, -1, 0, 5] {
         assert!(spare.contains(&needed), "{needed}");
     }
+}
+
+#[test]
+fn name_cases_replay() {
+    let mut replay = Replay::of("name.cases");
+    let (mut seen, mut refused) = (HashSet::new(), HashSet::new());
+    for _ in 0..replay.number(4) {
+        let text = replay.bytes();
+        let (map, domain) = (replay.number(2) as u16, replay.number(8) as usize);
+        let answer = Question { map, domain }.answer(&text);
+        assert_eq!(answer, Answer::of(replay.number(8)));
+        match policy_of(&text) {
+            Ok(_) => seen.insert((map, domain, answer.class)),
+            Err(refusal) => refused.insert((map, refusal.number)),
+        };
+    }
+    assert_eq!(replay.at, replay.bytes.len());
+    let maps = [0, 3, 65_535].map(|map| (map, 0, 1));
+    let edges = [
+        (1, 0, 2),
+        (1, 1, 1),
+        (2, 1, 2),
+        (2, 2, 1),
+        (1, 127, 2),
+        (1, 128, 1),
+        (2, 127, 2),
+        (2, 128, 1),
+        (1, 65_536, 1),
+        (2, 4_294_967_297, 1),
+    ];
+    for needed in maps.into_iter().chain(edges) {
+        assert!(seen.contains(&needed), "{needed:?}");
+    }
+    // A text that is too long does not fit in here.
+    let both = |number| [(1, number), (2, number)];
+    assert_eq!(refused, (3..=11).flat_map(both).collect());
 }
 
 /// Each field that may be put in several ways is put in each.

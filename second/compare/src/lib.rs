@@ -11,6 +11,7 @@ pub mod case;
 pub mod fill;
 pub mod judge;
 pub mod lent;
+pub mod name;
 pub mod options;
 pub mod overlap;
 pub mod page;

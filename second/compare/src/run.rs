@@ -4,7 +4,7 @@ use crate::bridge::Bridge;
 use crate::case::{Check, Mix};
 use crate::options::Options;
 use crate::wire::{Function, Replies, Requests};
-use crate::{fill, judge, overlap, page, read, well_formed};
+use crate::{fill, judge, name, overlap, page, read, well_formed};
 use cases::Dice;
 use std::io::{self, Write};
 use std::ops::Range;
@@ -21,6 +21,7 @@ fn ask(function: Function) -> Ask {
         Function::Page => page::ask,
         Function::Read => read::ask,
         Function::Fill => fill::ask,
+        Function::Name => name::ask,
     }
 }
 

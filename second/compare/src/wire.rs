@@ -13,10 +13,11 @@ pub enum Function {
     Page,
     Read,
     Fill,
+    Name,
 }
 
 impl Function {
-    pub const ALL: [Function; 7] = [
+    pub const ALL: [Function; 8] = [
         Function::WellFormed,
         Function::Judge,
         Function::JudgeKnown,
@@ -24,6 +25,7 @@ impl Function {
         Function::Page,
         Function::Read,
         Function::Fill,
+        Function::Name,
     ];
 
     pub fn name(self) -> &'static str {
@@ -35,6 +37,7 @@ impl Function {
             Function::Page => "page",
             Function::Read => "read",
             Function::Fill => "fill",
+            Function::Name => "name",
         }
     }
 }

@@ -1,8 +1,8 @@
 //! `include/dovetenon.h` and its example say what the plain program says.
 
 use second::judge::FRAMES;
-use second::{filler, refusal, EXAMPLE, TABLE_WORDS, WITNESS_WORDS};
-use second::{Overlap, Refusal, Verdict};
+use second::{filler, lookup, refusal, EXAMPLE, TABLE_WORDS, WITNESS_WORDS};
+use second::{Map, Overlap, Refusal, Verdict};
 use std::collections::BTreeMap;
 
 fn file(name: &str) -> String {
@@ -29,6 +29,7 @@ fn every_name_of_the_header_is_the_plain_number() {
         length: 1,
         uid: 0,
     };
+    let name = lookup::name(EXAMPLE.as_bytes(), 1, 0);
     let refusals = [
         ("TABLE_TOO_SHORT", refusal::SHORT_TABLE),
         ("TEXT_TOO_LONG", refusal::LONG_TEXT),
@@ -61,6 +62,8 @@ fn every_name_of_the_header_is_the_plain_number() {
         ("READING_ACCEPTED", Refusal::answer(None)),
         ("FILLING_REFUSED", filler::answer(Err(Refusal::of(30)))),
         ("FILLING_WRITTEN", filler::answer(Ok(0))),
+        ("NAME_NONE", lookup::answer(None)),
+        ("NAME_FOUND", lookup::answer(name)),
     ];
     let others = [
         ("TABLE_WORDS", TABLE_WORDS),
@@ -75,6 +78,8 @@ fn every_name_of_the_header_is_the_plain_number() {
         ("TARGET_UNLISTED", 2),
         ("NO_ENTRY_MATCHES", 3),
         ("NONE_GRANTS", 4),
+        ("OBJECT_MAP", Map::Objects as usize),
+        ("SUBJECT_MAP", Map::Subjects as usize),
     ];
     let refusals = refusals.map(|(name, number)| (name, usize::from(number)));
     let classes = classes.map(|(name, answer)| (name, usize::from(answer.class)));

@@ -34,6 +34,7 @@ fn a_right_stand_in_is_equal() {
         "page",
         "read",
         "fill",
+        "name",
     ];
     for name in names {
         let line = format!("{name}: 300 cases equal\n");
@@ -215,6 +216,38 @@ fn wrong_round_trips_are_found() {
     }
 }
 
+#[test]
+fn wrong_names_are_found() {
+    let faults = [
+        ("the name after", "plain:  \"class 2"),
+        ("1 and 2 are swapped", "map: 1"),
+        ("every map but 1 is the other", "map: 3"),
+        ("a number is cut to 32 bits", "domain: 4294967"),
+        ("a number is cut to 16 bits", "domain: 65536"),
+        (
+            "a name of a refused text",
+            "plain:  \"class 1 length 0 start 0",
+        ),
+        ("a start one late", "plain:  \"class 2"),
+        ("a length one more", "plain:  \"class 2"),
+        ("none is at the end", "plain:  \"class 1 length 0 start 0"),
+        ("none is no answer", "proved: \"class 0 length 0 start 0"),
+    ];
+    for (fault, told) in faults {
+        found(fault, "--only name", &["text of", "Question", told]);
+    }
+    let faults = [
+        ("a text is changed", "text: place 0"),
+        (
+            "the byte behind the text is changed",
+            "text: written outside",
+        ),
+    ];
+    for (fault, told) in faults {
+        found(fault, "--only name", &["text of", told]);
+    }
+}
+
 /// These outcomes are among the cases that the gate runs.
 fn has_outcomes(function: &str, refusals: impl Iterator<Item = u16>, others: &[&str]) {
     let line = format!("--only {function} --count 3000");
@@ -238,6 +271,17 @@ fn readings_have_every_outcome() {
 fn fillings_have_every_outcome() {
     let refusals = (2..=11).chain([30, 31]);
     has_outcomes("fill", refusals, &["written", "round trips"]);
+}
+
+#[test]
+fn names_have_every_outcome() {
+    let others = [
+        "object domain",
+        "subject domain",
+        "no such domain",
+        "no such map",
+    ];
+    has_outcomes("name", 2..=11, &others);
 }
 
 #[test]
@@ -305,6 +349,7 @@ fn bench_times_a_stand_in_and_finds_other_answers() {
         "read: patterns",
         "page: one hash",
         "fill: short entries",
+        "name: long names",
         "both proved: every limit           read ",
         "the table test",
         "the report",
@@ -317,6 +362,7 @@ fn bench_times_a_stand_in_and_finds_other_answers() {
         "all is inside one domain",
         "the last word is wrong",
         "the byte behind the filled text is cleared",
+        "a start one late",
     ];
     for fault in faults {
         let wrong = run(fault);

@@ -270,6 +270,19 @@ fn lookup_gives_the_very_stretch() {
     assert_eq!(lookup(b"", Map::Objects, 0), (0, 0));
 }
 
+/// By a map's number, as one number.
+#[test]
+fn a_name_is_answered_with_class_length_and_start() {
+    let answer = |map, domain| lookup::answer(lookup::name(EXAMPLE.as_bytes(), map, domain));
+    let start = EXAMPLE.find("Meter").unwrap() as u64;
+    assert_eq!(answer(1, 0).packed(), start << 32 | 2 << 16 | 5);
+    let start = EXAMPLE.find("Bill").unwrap() as u64;
+    assert_eq!(answer(2, 1).packed(), start << 32 | 2 << 16 | 4);
+    for (map, domain) in [(1, 1), (2, 2), (0, 0), (3, 0), (65_535, 0), (2, usize::MAX)] {
+        assert_eq!(answer(map, domain).packed(), 1 << 16);
+    }
+}
+
 #[test]
 fn slips_to_expect() {
     let all = Element::All;

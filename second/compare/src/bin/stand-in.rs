@@ -5,11 +5,14 @@
 
 use compare::lent::{Lent, Value};
 use compare::wire::{Call, Function, CALL, LEND, SHOW, TIME, WHAT_IS_HERE};
+use second::file::Word;
+use second::lookup::{self, name_in};
 use second::policy::ELEMENTS;
 use second::refusal::{EMPTY, LAYOUT, LONG_FILLED, SHORT_OUTPUT, SHORT_TABLE, TWICE, UNKNOWN};
 use second::table::{ENTRIES_AT, ENTRY_WORDS, PATTERN_AT, UNUSED_AT};
 use second::{
-    filled, filler, first_fault, well_formed, Event, Overlap, Refusal, Verdict, TABLE_WORDS,
+    filled, filler, first_fault, page, well_formed, Event, Map, Overlap, Refusal, Verdict,
+    TABLE_WORDS,
 };
 use std::collections::BTreeMap;
 use std::io::{self, Read, Write};
@@ -110,6 +113,12 @@ fn change_past<T: Value + Default>(lent: &mut Lent<T>) {
     lent.all_mut()[place] = T::default();
 }
 
+fn change_text(fault: &str, text: &mut Lent<u8>) {
+    if fault == "a text is changed" {
+        text.get_mut().fill(b' ');
+    }
+}
+
 /// Calls a function and leaves in the slots what it wrote.
 fn answer(fault: &str, slots: &mut Slots, call: &Call) -> u64 {
     let words = |place| lent::<u16>(slots, call, place);
@@ -139,6 +148,7 @@ fn answer(fault: &str, slots: &mut Slots, call: &Call) -> u64 {
         Function::Page => paged(fault, lent(slots, call, 0).get()),
         Function::Read => written(fault, slots, call, taken),
         Function::Fill => written(fault, slots, call, filled_out),
+        Function::Name => looked_up(fault, slots, call),
     }
 }
 
@@ -151,10 +161,9 @@ fn written<T: Value + Default>(
 ) -> u64 {
     let (mut text, mut output) = (lent::<u8>(slots, call, 0), lent::<T>(slots, call, 1));
     let answer = function(fault, text.get(), output.get_mut());
-    match fault {
-        "a text is changed" => text.get_mut().fill(b' '),
-        "the place past what is lent is changed" => change_past(&mut output),
-        _ => {}
+    change_text(fault, &mut text);
+    if fault == "the place past what is lent is changed" {
+        change_past(&mut output);
     }
     slots.insert(call.slots[0], text.bytes());
     slots.insert(call.slots[1], output.bytes());
@@ -290,4 +299,51 @@ fn filled_out(fault: &str, text: &[u8], output: &mut [u8]) -> u64 {
         _ => {}
     }
     filler::answer(filling).packed()
+}
+
+/// Looks a name up and leaves the text in its slot.
+fn looked_up(fault: &str, slots: &mut Slots, call: &Call) -> u64 {
+    let mut text = lent::<u8>(slots, call, 0);
+    let answer = named(fault, text.get(), call);
+    change_text(fault, &mut text);
+    if fault == "the byte behind the text is changed" {
+        change_past(&mut text);
+    }
+    slots.insert(call.slots[0], text.bytes());
+    answer
+}
+
+fn named(fault: &str, text: &[u8], call: &Call) -> u64 {
+    let [map, low, high, ..] = call.numbers;
+    let domain = (u64::from(high) << 32 | u64::from(low)) as usize;
+    let (map, domain) = match (fault, map) {
+        ("the name after", _) => (map, domain.saturating_add(1)),
+        ("1 and 2 are swapped", 1 | 2) => (3 - map, domain),
+        ("every map but 1 is the other", 2..) => (2, domain),
+        ("a number is cut to 32 bits", _) => (map, low as usize),
+        ("a number is cut to 16 bits", _) => (map, usize::from(low as u16)),
+        _ => (map, domain),
+    };
+    let map = map as u16;
+    let name = match fault {
+        "a name of a refused text" => of_refused(text, map, domain),
+        _ => lookup::name(text, map, domain),
+    };
+    let mut answer = lookup::answer(name);
+    match (fault, name) {
+        ("a start one late", Some(_)) => answer.rest += 1,
+        ("a length one more", Some(_)) => answer.value += 1,
+        ("none is at the end", None) => answer.rest = text.len() as u32,
+        ("none is no answer", None) => answer.class = 0,
+        _ => {}
+    }
+    answer.packed()
+}
+
+/// A name, though a rule over the whole file may refuse the text.
+fn of_refused(text: &[u8], map: u16, domain: usize) -> Option<Word<'_>> {
+    match first_fault(text) {
+        None => name_in(&page::file(text).ok()?, Map::of(map)?, domain),
+        Some(_) => None,
+    }
 }

@@ -1,11 +1,13 @@
-//! The whole reader, the page check alone, and the filler, on large texts.
+//! The whole reader, the page check alone, the filler, and the name of one
+//! domain, on large texts.
 
 use crate::timing::{exchange, figure, Bench, Calls, Figure};
 use cases::large::{self, Large};
+use cases::names::Question;
 use compare::lent::Value;
 use compare::wire::{Call, Function, Replies, Requests};
 use second::text::TEXT_LIMIT;
-use second::{filler, first_fault, quick, Refusal, TABLE_WORDS};
+use second::{filler, first_fault, quick, Map, Refusal, TABLE_WORDS};
 use std::hint::black_box;
 
 /// All texts are timed so many times over: a machine may be busy for a while.
@@ -20,6 +22,7 @@ struct Figures {
     read: Figure,
     page: Figure,
     fill: Figure,
+    name: Figure,
 }
 
 impl Figures {
@@ -28,6 +31,7 @@ impl Figures {
             read: self.read.least(other.read),
             page: self.page.least(other.page),
             fill: self.fill.least(other.fill),
+            name: self.name.least(other.name),
         }
     }
 }
@@ -43,6 +47,7 @@ pub fn rows(bench: &mut Bench) -> Result<(), String> {
         figures.read.print(&format!("read: {name}"), bridge);
         figures.page.print(&format!("page: {name}"), bridge);
         figures.fill.print(&format!("fill: {name}"), bridge);
+        figures.name.print(&format!("name: {name}"), bridge);
     }
     for (Large { name, .. }, figures) in large::texts().iter().zip(&least) {
         let pair = [("read", &figures.read), ("fill", &figures.fill)];
@@ -63,6 +68,7 @@ fn sweep(bench: &mut Bench) -> Result<Vec<Figures>, String> {
             read: read(bench, large)?,
             page: page(bench, large)?,
             fill: fill(bench, large)?,
+            name: name(bench, large)?,
         });
     }
     Ok(figures)
@@ -94,6 +100,22 @@ fn fill(bench: &mut Bench, large: &Large) -> Result<Figure, String> {
     })?;
     same(bench, large, Function::Fill, OUTPUT, &output)?;
     Ok(figure)
+}
+
+/// Of the first subject domain.
+fn name(bench: &mut Bench, large: &Large) -> Result<Figure, String> {
+    let question = Question {
+        map: Map::Subjects as u16,
+        domain: 0,
+    };
+    let calls = Calls {
+        name: large.name.to_string(),
+        function: Function::Name,
+        all: &[compare::name::call(question, TEXT)],
+    };
+    figure(bench, &calls, || {
+        question.answer(black_box(&large.text)).packed()
+    })
 }
 
 /// The figure of a function on what is lent in these slots.

@@ -1,0 +1,4 @@
+pub mod Decimals
+pub mod Program
+pub mod NeverThirty
+pub mod Agree
