@@ -30,7 +30,8 @@ enum {
     DOVETENON_TABLE_WORDS = 16384,  /* of a table, at least */
     DOVETENON_FRAMES = 64,          /* of a stack, at most */
     DOVETENON_WITNESS_WORDS = 32,   /* of a witness, at least */
-    DOVETENON_TEXT_BYTES = 65536    /* of a text, and of a filled one, at most */
+    DOVETENON_TEXT_BYTES = 65536,   /* of a text, and of a filled one, at most */
+    DOVETENON_LIST_WORDS = 9728     /* that the list of a text's names takes, at most */
 };
 
 /* The numbers of refusals: class 1 of every answer but a name. */
@@ -327,6 +328,71 @@ static inline uint16_t dovetenon_name_length(uint64_t name)
 {
     return (uint16_t)(name & 0xFFFF);
 }
+
+/* ---- Names */
+
+/* What a policy text names. Each kind is numbered from 0 in file order, with
+   the numbers that the table, the judge and the report have. */
+enum {
+    DOVETENON_KIND_OBJECT_DOMAIN = 1,
+    DOVETENON_KIND_OBJECT = 2,
+    DOVETENON_KIND_SUBJECT_DOMAIN = 3,
+    DOVETENON_KIND_FUNCTION = 4,
+    DOVETENON_KIND_ENTRY = 5
+};
+
+/* Lists where the names of a policy text stand, in file order. A thing is four
+   words: its kind, its line, where its name starts in the text and how many
+   bytes the name has. The name of an entry is its subject; its line is that of
+   its `principal`.
+
+   Refused with 2 to 11 as dovetenon_read does; no word of the list changes
+   then. When listed, the answer tells how many words the list takes. If fewer
+   are lent, none changes; else the list stands at their front, and words past
+   it never change.
+
+   It wants 1 MB of stack. */
+uint64_t dovetenon_list(const uint8_t *text, size_t text_len,
+                        uint32_t *list, size_t list_len);
+
+/* The classes of a listing, and what else it tells. */
+enum {
+    DOVETENON_LISTING_REFUSED = 1,  /* the number of the refusal, and its line */
+    DOVETENON_LISTING_LISTED = 2    /* how many words the list takes */
+};
+
+static inline uint32_t dovetenon_listing_class(uint64_t listing)
+{
+    return (uint32_t)(listing >> 16 & 0xFFFF);
+}
+
+/* Of a listing that is refused. */
+static inline uint16_t dovetenon_listing_number(uint64_t listing)
+{
+    return (uint16_t)(listing & 0xFFFF);
+}
+
+/* The line at fault, from 1; 0 for refusal 2, which has none. */
+static inline uint32_t dovetenon_listing_line(uint64_t listing)
+{
+    return (uint32_t)(listing >> 32);
+}
+
+/* Of a listing that is listed: how many words the list takes. */
+static inline uint32_t dovetenon_listing_words(uint64_t listing)
+{
+    return (uint32_t)(listing >> 32);
+}
+
+/* The number of the first thing of a kind with this name, by the list of the
+   text; where there is none, how many of the kind there are, which is the
+   number of nothing. Lend as many words as the list takes. Of any other words
+   each whole four is taken for a thing, and of its name what stands within the
+   text. */
+size_t dovetenon_find(const uint8_t *text, size_t text_len,
+                      const uint32_t *list, size_t list_len,
+                      uint32_t kind,
+                      const uint8_t *name, size_t name_len);
 
 #ifdef __cplusplus
 }

@@ -38,6 +38,8 @@
 #pragma weak dovetenon_read
 #pragma weak dovetenon_fill
 #pragma weak dovetenon_name
+#pragma weak dovetenon_list
+#pragma weak dovetenon_find
 
 /* Of the C library, for x86-64 Linux. Its headers are not at hand everywhere. */
 struct timespec { long seconds, nanoseconds; };
@@ -50,7 +52,7 @@ void *memcpy(void *to, const void *from, size_t length);
 size_t strlen(const char *text);
 _Noreturn void _exit(int status);
 
-enum { WELL_FORMED, JUDGE, JUDGE_KNOWN, OVERLAP, PAGE, READ, FILL, NAME, FUNCTIONS };
+enum { WELL_FORMED, JUDGE, JUDGE_KNOWN, OVERLAP, PAGE, READ, FILL, NAME, LIST, FIND, FUNCTIONS };
 
 static const struct {
     const char *name;
@@ -64,6 +66,8 @@ static const struct {
     [READ] = {"read", (void (*)(void))dovetenon_read},
     [FILL] = {"fill", (void (*)(void))dovetenon_fill},
     [NAME] = {"name", (void (*)(void))dovetenon_name},
+    [LIST] = {"list", (void (*)(void))dovetenon_list},
+    [FIND] = {"find", (void (*)(void))dovetenon_find},
 };
 
 static _Noreturn void fail(const char *fault)
@@ -145,7 +149,7 @@ static void lend(void)
 {
     uint32_t slot = number(), guard = number(), length = number();
     const unsigned char *from = take(length);
-    if (slot > 1u << 20 || guard == 0 || guard % sizeof(uint16_t) != 0 || length / 2 < guard)
+    if (slot > 1u << 20 || guard == 0 || guard % sizeof(uint32_t) != 0 || length / 2 < guard)
         fail("this cannot be lent");
     if (slot >= slot_count) {
         size_t count = 2 * slot_count > slot ? 2 * slot_count : slot + 1;
@@ -181,6 +185,9 @@ static size_t text_len(uint32_t slot)
 
 static uint16_t *words(uint32_t slot) { return (uint16_t *)(void *)text(slot); }
 static size_t words_len(uint32_t slot) { return text_len(slot) / sizeof(uint16_t); }
+
+static uint32_t *list(uint32_t slot) { return (uint32_t *)(void *)text(slot); }
+static size_t list_len(uint32_t slot) { return text_len(slot) / sizeof(uint32_t); }
 
 /* ---- Calls */
 
@@ -224,9 +231,15 @@ static uint64_t answer(const struct call *call)
     case FILL:
         return dovetenon_fill(text(slot[0]), text_len(slot[0]),
                               text(slot[1]), text_len(slot[1]));
-    default:
+    case NAME:
         return dovetenon_name(text(slot[0]), text_len(slot[0]), (uint16_t)number[0],
                               (size_t)number[2] << 32 | number[1]);
+    case LIST:
+        return dovetenon_list(text(slot[0]), text_len(slot[0]),
+                              list(slot[1]), list_len(slot[1]));
+    default:
+        return dovetenon_find(text(slot[0]), text_len(slot[0]), list(slot[1]), list_len(slot[1]),
+                              number[0], text(slot[2]), text_len(slot[2]));
     }
 }
 

@@ -4,6 +4,7 @@ use mathlib.Core.List.{List}
 use Prim.Native.Nat.{ℕ}
 use Rattle.paper.specs.Answers.{readingPacked, fillingPacked, reportPacked}
 use Rattle.paper.specs.Promises.{readAnswer, readLeaves, fillAnswer, fillLeaves}
+use Rattle.file_listing.specs.Answer.{listAnswer, listLeaves, listingPacked}
 use Rattle.overlap.proofs.Agree.{reports-fixed}
 use Rattle.export.specs.Told.{ReportedAs}
 
@@ -21,6 +22,12 @@ pub one-filling : (text out left left′ : List ℕ) (r r′ : ℕ)
     → (r ≡ fillingPacked (fillAnswer text out)) × (left ≡ fillLeaves text out) → (r′ ≡ fillingPacked (fillAnswer text out)) × (left′ ≡ fillLeaves text out)
     → (r ≡ r′) × (left ≡ left′)
 one-filling text out left left′ r r′ a b = (one-answer (a .0) (b .0), one-answer (a .1) (b .1))
+
+-- the list of names: the answer and every word of the list
+pub one-listing : (text list left left′ : List ℕ) (r r′ : ℕ)
+    → (r ≡ listingPacked (listAnswer text)) × (left ≡ listLeaves text list) → (r′ ≡ listingPacked (listAnswer text)) × (left′ ≡ listLeaves text list)
+    → (r ≡ r′) × (left ≡ left′)
+one-listing text list left left′ r r′ a b = (one-answer (a .0) (b .0), one-answer (a .1) (b .1))
 
 -- the report: the answer and every word of the witness
 pub one-report : (table old new new′ : List ℕ) (r r′ : ℕ) → ReportedAs table old new r → ReportedAs table old new′ r′ → (r ≡ r′) × (new ≡ new′)

@@ -22,6 +22,9 @@ use Rattle.laws.proofs.Stretches.{length-taken}
 use Rattle.file_lookup.specs.declared.Place.{Place}
 use Rattle.file_lookup.specs.Place.{bytesIn, stretchIn, InText}
 use Rattle.file_lookup.proofs.Found.{empty-front}
+use Rattle.file_listing.specs.declared.Listing.{Listing}
+use Rattle.file_listing.specs.declared.Listing.the-variants.{Listed, Unlisted}
+use Rattle.file_listing.specs.Answer.{listingPacked}
 
 -- ---- parts to a number
 
@@ -76,6 +79,15 @@ module _ (a : Filling) (r : ℕ) where
   pub packs-written : (size : ℕ) → a ≡ Written size → r ≡ packed (record { class = 2; value = 0; rest = size }) → r ≡ fillingPacked a
   unfolding fillingPacked
   packs-written size e h = rw e h
+
+module _ (a : Listing) (r : ℕ) where
+  pub packs-unlisted : (number line : ℕ) → a ≡ Unlisted number line → r ≡ packed (record { class = 1; value = number; rest = line }) → r ≡ listingPacked a
+  unfolding listingPacked
+  packs-unlisted number line e h = rw e h
+
+  pub packs-listed : (words : ℕ) → a ≡ Listed words → r ≡ packed (record { class = 2; value = 0; rest = words }) → r ≡ listingPacked a
+  unfolding listingPacked
+  packs-listed words e h = rw e h
 
 module _ (a : Report) (r : ℕ) where
   pub packs-unreported : (number : ℕ) → a ≡ Unreported number → r ≡ packed (record { class = 1; value = number; rest = 0 }) → r ≡ reportPacked a
@@ -153,3 +165,6 @@ module _ (t : List ℕ) (number d r : ℕ) where
     pub by-none : (number ≡ 2 → ⊥) → r ≡ packed (record { class = 1; value = 0; rest = 0 }) → r ≡ namePacked (lookupNumbered t number d)
     unfolding lookupNumbered
     by-none third h = rw (ne-eqb number 1 other, ne-eqb number 2 third) (packs-front r h)
+
+pub packs-listing : (a answer : Listing) (r : ℕ) → r ≡ listingPacked a → a ≡ answer → r ≡ listingPacked answer
+packs-listing a answer r p e = p ∙ ap listingPacked e

@@ -23,3 +23,6 @@ pub const WRITTEN: u16 = 2;
 pub const NAME_NONE: u16 = 1;
 
 pub const NAME_FOUND: u16 = 2;
+
+// Of a listing.
+pub const LISTED: u16 = 2;

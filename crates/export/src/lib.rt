@@ -3,6 +3,7 @@
 pub mod class;
 pub mod map;
 
+use file_listing::Listing;
 use judge::Ids;
 use paper::Filling;
 use paper::Map;
@@ -15,6 +16,8 @@ ghost use Rattle.paper.specs.Table.{wellFormed, policyIn};
 ghost use Rattle.paper.specs.Promises.{textPage, readingOf, readAnswer, readLeaves, fillAnswer, fillLeaves, judgeEvent, judgeAnswer};
 ghost use Rattle.paper.specs.Promises.{lookupAnswer, lookupNumbered};
 ghost use Rattle.paper.specs.Answers.{clashRest, packed, readingPacked, fillingPacked, verdictPacked, reportPacked, namePacked, ReportFits};
+ghost use Rattle.file_listing.specs.Answer.{listAnswer, listLeaves, listingPacked};
+ghost use Rattle.file_find.specs.Number.{numberOf};
 ghost use Rattle.export.specs.Told.{ReportedAs};
 
 // Where the class of an answer begins, and the rest: bits 16 and 32.
@@ -206,4 +209,28 @@ pub extern "C" fn dovetenon_name(text: &[u8], map: u16, domain: usize) -> u64
         return packed_name(text, Map::Subjects, domain);
     }
     whole(class::NAME_NONE, 0, 0)
+}
+
+fn packed_listing(listing: Listing) -> u64
+    ensures { λ r. ⌜ r ≡ listingPacked listing ⌝ }
+{
+    match listing {
+        Listing::Unlisted { number, line } => whole(class::REFUSED, number, line),
+        Listing::Listed { words } => whole(class::LISTED, 0, words),
+    }
+}
+
+#[no_mangle]
+pub extern "C" fn dovetenon_list(text: &[u8], list: &mut [u32]) -> u64
+    ensures { λ r. ⌜ r ≡ listingPacked (listAnswer (now (text .entry))) ⌝ }
+    ensures { λ r. ⌜ now (list .exit) ≡ listLeaves (now (text .entry)) (now (list .entry)) ⌝ }
+{
+    packed_listing(file_listing::list(text, list))
+}
+
+#[no_mangle]
+pub extern "C" fn dovetenon_find(text: &[u8], list: &[u32], kind: u32, name: &[u8]) -> usize
+    ensures { λ r. ⌜ r ≡ numberOf (now (text .entry)) (now (list .entry)) kind (now (name .entry)) ⌝ }
+{
+    file_find::find(text, list, kind, name)
 }

@@ -1,8 +1,7 @@
 -- What the filler answers and leaves, step by step: by the page, by the rules, then by the size.
-use mathlib.Core.Path.{_≡_, refl, sym, ap, _∙_}
+use mathlib.Core.Path.{_≡_, refl, _∙_}
 use mathlib.Core.List.{List, _++_}
 use Prim.Native.Nat.{ℕ, _<_, _≤_}
-use native.Mathlib.Omega.{arith}
 use lib.ListN.{length, drop}
 use borrow.Author.Tests.{lt-ltb, le-ltb}
 use Rattle.paper.specs.declared.Reading.{Reading}
@@ -10,15 +9,15 @@ use Rattle.paper.specs.declared.Reading.the-variants.{Accepted, Unread}
 use Rattle.paper.specs.declared.Filling.{Filling}
 use Rattle.paper.specs.declared.Filling.the-variants.{Written, Unfilled}
 use Rattle.paper.specs.Limits.{textBytes}
-use Rattle.paper.specs.Page.{Field, Outcome, fields, fault}
+use Rattle.paper.specs.Page.{Field}
 use Rattle.paper.specs.Rules.{ruled}
 use Rattle.paper.specs.Filled.{filledText}
-use Rattle.paper.specs.Promises.{textPage, fileOf, readingOf, writtenIn, fillingOf, textFilled, outputLeft, fillAnswer, fillLeaves}
-use Rattle.laws_file.proofs.Kept.{no-line}
+use Rattle.paper.specs.Promises.{textPage, readingOf, writtenIn, fillingOf, textFilled, outputLeft, fillAnswer, fillLeaves}
 use Rattle.file_fields.specs.Fields.{between}
 use Rattle.file_fields.specs.Listed.{foundIn}
 use Rattle.file_fields.specs.declared.Found.{Found}
 use Rattle.file_fields.specs.declared.Found.the-variants.{Listed, Refused}
+use Rattle.file_read.proofs.Finding.{file-refused, file-held, rules-fault, rules-hold}
 
 -- ---- the size
 
@@ -45,56 +44,34 @@ module _ (room s : ℕ) (text : List ℕ) (e : s ≡ length text) where
 
 module _ (fs : List Field) (r : Reading) (e : r ≡ readingOf (ruled fs)) where
   module _ (k m : ℕ) (q : r ≡ Unread k m) where
-    rules-fault : ruled fs ≡ fault k m
-    rules-fault = go (ruled fs) (sym q ∙ e)
-      where
-        go : (o : Outcome) → Unread k m ≡ readingOf o → o ≡ fault k m
-        go (fields gs) h = absurd (let z : _≡_ {A = ℕ} 0 1 = cc in omega arith)
-        go (fault l n) h = cc
-
     pub rules-refuse : (room : ℕ) → Unfilled k m ≡ fillingOf room (ruled fs)
-    rules-refuse room = rw rules-fault refl
+    rules-refuse room = rw (rules-fault fs r e k m q) refl
 
   module _ (q : r ≡ Accepted) where
-    rules-hold : ruled fs ≡ fields fs
-    rules-hold = go (ruled fs) refl (sym q ∙ e)
-      where
-        go : (o : Outcome) → ruled fs ≡ o → Accepted ≡ readingOf o → ruled fs ≡ fields fs
-        go (fields gs) h a = h ∙ ap fields (sym (no-line fs gs h .1))
-        go (fault l n) h a = absurd (let z : _≡_ {A = ℕ} 0 1 = cc in omega arith)
-
     pub rules-answer : (room : ℕ) (a : Filling) → a ≡ writtenIn room (length (filledText fs)) → a ≡ fillingOf room (ruled fs)
-    rules-answer room a h = h ∙ rw rules-hold refl
+    rules-answer room a h = h ∙ rw (rules-hold fs r e q) refl
 
     pub rules-leave : (out after : List ℕ) (a : Filling) → after ≡ outputLeft (filledText fs) out a → after ≡ outputLeft (textFilled (ruled fs)) out a
-    rules-leave out after a h = h ∙ rw rules-hold refl
+    rules-leave out after a h = h ∙ rw (rules-hold fs r e q) refl
 
 -- ---- the page
 
 module _ (t list : List ℕ) (f : Found) (e : foundIn t list f ≡ textPage t) where
   module _ (k m : ℕ) (q : f ≡ Refused k m) where
-    page-fault : fileOf t ≡ fault k m
-    unfolding fileOf
-    page-fault = rw (← e, q) refl
-
     pub page-refuses : (out : List ℕ) → Unfilled k m ≡ fillAnswer t out
     unfolding fillAnswer
-    page-refuses out = rw page-fault refl
+    page-refuses out = rw (file-refused t list f e k m q) refl
 
     pub page-untouched : (out : List ℕ) → out ≡ fillLeaves t out
     unfolding fillLeaves
     page-untouched out = rw (← page-refuses out) refl
 
   module _ (n : ℕ) (q : f ≡ Listed n) where
-    page-held : fileOf t ≡ ruled (between t list 0 n)
-    unfolding fileOf
-    page-held = rw (← e, q) refl
-
     pub page-answers : (out : List ℕ) (a : Filling) → a ≡ fillingOf (length out) (ruled (between t list 0 n)) → a ≡ fillAnswer t out
     unfolding fillAnswer
-    page-answers out a h = h ∙ rw page-held refl
+    page-answers out a h = h ∙ rw (file-held t list f e n q) refl
 
     pub page-leaves : (out after : List ℕ) (a : Filling) → a ≡ fillingOf (length out) (ruled (between t list 0 n))
         → after ≡ outputLeft (textFilled (ruled (between t list 0 n))) out a → after ≡ fillLeaves t out
     unfolding fillLeaves
-    page-leaves out after a h g = g ∙ rw (← page-answers out a h, page-held) refl
+    page-leaves out after a h g = g ∙ rw (← page-answers out a h, file-held t list f e n q) refl

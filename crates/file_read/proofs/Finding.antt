@@ -1,5 +1,5 @@
 -- What the walk found of a text, as the reader's answer and as the table's words.
-use mathlib.Core.Path.{_≡_}
+use mathlib.Core.Path.{_≡_, refl, sym, ap, _∙_}
 use mathlib.Core.List.{List, _++_}
 use Prim.Native.Nat.{ℕ, _*_, _≤_}
 use native.Mathlib.Omega.{arith}
@@ -7,11 +7,12 @@ use mir.Syntax.{w32}
 use mir.Val.{Fits}
 use lib.ListN.{length, take, drop, replicate}
 use Rattle.paper.specs.declared.Reading.{Reading}
-use Rattle.paper.specs.declared.Reading.the-variants.{Unread}
+use Rattle.paper.specs.declared.Reading.the-variants.{Accepted, Unread}
 use Rattle.paper.specs.Limits.{textBytes, tableWords}
-use Rattle.paper.specs.Page.{fields, fault}
+use Rattle.paper.specs.Page.{Field, Outcome, fields, fault}
 use Rattle.paper.specs.Rules.{ruled}
 use Rattle.paper.specs.Promises.{textPage, fileOf, readingOf, wordsRead}
+use Rattle.laws_file.proofs.Kept.{no-line}
 use Rattle.file_fields.specs.Fields.{fieldSize, between}
 use Rattle.file_fields.specs.Listed.{mostFields, foundIn, Holds}
 use Rattle.file_fields.specs.declared.Found.{Found}
@@ -27,6 +28,10 @@ module _ (t list : List ℕ) (r : Found) (e : foundIn t list r ≡ textPage t) w
     refusal : fault k m ≡ textPage t
     refusal = rw q at e
 
+    pub file-refused : fileOf t ≡ fault k m
+    unfolding fileOf
+    file-refused = rw (← refusal) refl
+
     pub refusal-fits : Fits w32 m
     refusal-fits = text-fault-fits t k m refusal
 
@@ -39,6 +44,10 @@ module _ (t list : List ℕ) (r : Found) (e : foundIn t list r ≡ textPage t) w
   module _ (n : ℕ) (q : r ≡ Listed n) where
     listed : fields (between t list 0 n) ≡ textPage t
     listed = rw q at e
+
+    pub file-held : fileOf t ≡ ruled (between t list 0 n)
+    unfolding fileOf
+    file-held = rw (← listed) refl
 
     fields-room : Holds list r → fieldSize * n ≤ length list
     fields-room h = rw q at h
@@ -60,3 +69,20 @@ module _ (t list : List ℕ) (r : Found) (e : foundIn t list r ≡ textPage t) w
 
     pub fields-leave : (table after : List ℕ) → after ≡ wordsRead (ruled (between t list 0 n)) ++ drop tableWords table → after ≡ wordsRead (fileOf t) ++ drop tableWords table
     fields-leave table after f = text-words t (between t list 0 n) table after listed f
+
+-- ---- fields held to the rules
+
+module _ (fs : List Field) (r : Reading) (e : r ≡ readingOf (ruled fs)) where
+  pub rules-fault : (k m : ℕ) → r ≡ Unread k m → ruled fs ≡ fault k m
+  rules-fault k m q = go (ruled fs) (sym q ∙ e)
+    where
+      go : (o : Outcome) → Unread k m ≡ readingOf o → o ≡ fault k m
+      go (fields gs) h = absurd (let z : _≡_ {A = ℕ} 0 1 = cc in omega arith)
+      go (fault l n) h = cc
+
+  pub rules-hold : r ≡ Accepted → ruled fs ≡ fields fs
+  rules-hold q = go (ruled fs) refl (sym q ∙ e)
+    where
+      go : (o : Outcome) → ruled fs ≡ o → Accepted ≡ readingOf o → ruled fs ≡ fields fs
+      go (fields gs) h a = h ∙ ap fields (sym (no-line fs gs h .1))
+      go (fault l n) h a = absurd (let z : _≡_ {A = ℕ} 0 1 = cc in omega arith)

@@ -53,6 +53,13 @@ module _ (t : List ℕ) where
       (λ b h q f. absurd (let z : _≡_ {A = ℕ} 0 1 = cc in omega arith))
       (λ h f. page-readable t fs h (sym f))
 
+  pub text-page : (fs : List Field) → fields fs ≡ textPage t → pageOf t ≡ fields fs
+  text-page fs e =
+      text-cases (fields fs) e
+      (λ h f. absurd (let z : _≡_ {A = ℕ} 0 1 = cc in omega arith))
+      (λ b h q f. absurd (let z : _≡_ {A = ℕ} 0 1 = cc in omega arith))
+      (λ h f. sym f)
+
   pub text-short : (fs : List Field) → fields fs ≡ textPage t → length t ≤ textBytes
   text-short fs e =
       text-cases (fields fs) e

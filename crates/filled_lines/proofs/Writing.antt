@@ -74,3 +74,38 @@ module _ (x old out : List ℕ) (a : ℕ) (u : Wrote x old out a) (y ys : List �
 -- how far it was written is a number that fits
 pub wrote-fits : (x y old out ys : List ℕ) (a b : ℕ) → Wrote y (left out a) ys b → Wrote x old out a → length old * 1 < 2 ^ 63 → val.Fits w64 (a + b)
 wrote-fits x y old out ys a b v u l = omega (arith, wrote-on u v .far, wrote-on u v .room)
+
+-- ---- a text written in a loop: what is written and what is left make the whole
+
+-- of `whole`, all but `rest` is written, up to `at`
+pub record Writing (whole rest old out : List ℕ) (at : ℕ) : Type 0 where
+  pub front : List ℕ
+  pub joins : whole ≡ front ++ rest
+  pub enough : length whole ≤ length old
+  pub done : Wrote front old out at
+
+pub begin : (whole rest old : List ℕ) → whole ≡ rest → length whole ≤ length old → Writing whole rest old old 0
+begin whole rest old e h = record { front = []; joins = e; enough = h; done = wrote-none old }
+
+module _ {whole rest old out : List ℕ} {at : ℕ} (w : Writing whole rest old out at) where
+  pub start : at ≤ length out
+  start = wrote-within (w .front) old out at (w .done)
+
+  pub same : length out ≡ length old
+  same = wrote-length (w .done)
+
+  pub finish : rest ≡ [] → Wrote whole old out at
+  finish e = let q : whole ≡ w .front = w .joins ∙ rw (e, append-nil) refl in rw q (w .done)
+
+  module _ (x others : List ℕ) (e : rest ≡ x ++ others) where
+    pub room : length x ≤ length (left out at)
+    room =
+        let h : length (w .front ++ (x ++ others)) ≤ length old = rw (← e, ← w .joins) (w .enough) in
+        first-room x others (left out at) (last-room (w .front) old out at (w .done) (x ++ others) h)
+
+    module _ (ys : List ℕ) (b : ℕ) (v : Wrote x (left out at) ys b) where
+      pub fits : length old * 1 < 2 ^ 63 → val.Fits w64 (at + b)
+      fits l = wrote-fits (w .front) x old out ys at b v (w .done) l
+
+      pub more : Writing whole others old (over out at ys) (at + b)
+      more = record { front = w .front ++ x; joins = w .joins ∙ rw (e, append-assoc) refl; enough = w .enough; done = wrote-on (w .done) v }

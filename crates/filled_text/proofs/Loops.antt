@@ -1,6 +1,6 @@
 -- Texts written in a loop: what is written and what is left make the whole.
 use mathlib.Core.Path.{_≡_, refl, _∙_}
-use mathlib.Core.List.{List, [], _++_, flatMap, append-assoc, append-nil}
+use mathlib.Core.List.{List, _++_, flatMap}
 use Prim.Native.Nat.{ℕ, _+_, _-_, _*_, _^_, _<_, _≤_}
 use native.Mathlib.Omega.{arith}
 use mir.Syntax.{w64}
@@ -14,40 +14,7 @@ use Rattle.file_fields.specs.Fields.{fieldSize, fieldAt, between, nextAt}
 use Rattle.file_fields.proofs.Between.{between-more, between-none}
 use Rattle.file_fields.proofs.Walking.{Walked, walked, walk-within, stretches-first, stretches-more, stretches-none}
 use Rattle.filled_lines.specs.Wrote.{Wrote}
-use Rattle.filled_lines.proofs.Writing.{left, over, wrote-none, wrote-length, wrote-on, first-room, wrote-within, last-room, wrote-fits}
-
--- of `whole`, all but `rest` is written, up to `at`
-pub record Writing (whole rest old out : List ℕ) (at : ℕ) : Type 0 where
-  pub front : List ℕ
-  pub joins : whole ≡ front ++ rest
-  pub enough : length whole ≤ length old
-  pub done : Wrote front old out at
-
-begin : (whole rest old : List ℕ) → whole ≡ rest → length whole ≤ length old → Writing whole rest old old 0
-begin whole rest old e h = record { front = []; joins = e; enough = h; done = wrote-none old }
-
-module _ {whole rest old out : List ℕ} {at : ℕ} (w : Writing whole rest old out at) where
-  start : at ≤ length out
-  start = wrote-within (w .front) old out at (w .done)
-
-  same : length out ≡ length old
-  same = wrote-length (w .done)
-
-  finish : rest ≡ [] → Wrote whole old out at
-  finish e = let q : whole ≡ w .front = w .joins ∙ rw (e, append-nil) refl in rw q (w .done)
-
-  module _ (x others : List ℕ) (e : rest ≡ x ++ others) where
-    room : length x ≤ length (left out at)
-    room =
-        let h : length (w .front ++ (x ++ others)) ≤ length old = rw (← e, ← w .joins) (w .enough) in
-        first-room x others (left out at) (last-room (w .front) old out at (w .done) (x ++ others) h)
-
-    module _ (ys : List ℕ) (b : ℕ) (v : Wrote x (left out at) ys b) where
-      fits : length old * 1 < 2 ^ 63 → val.Fits w64 (at + b)
-      fits l = wrote-fits (w .front) x old out ys at b v (w .done) l
-
-      more : Writing whole others old (over out at ys) (at + b)
-      more = record { front = w .front ++ x; joins = w .joins ∙ rw (e, append-assoc) refl; enough = w .enough; done = wrote-on (w .done) v }
+use Rattle.filled_lines.proofs.Writing.{left, over, Writing, begin, start, same, finish, room, fits, more}
 
 -- ---- lines as they were written: those of the fields before number i are there
 

@@ -26,6 +26,11 @@ const UNTOUCHED_BYTE: u8 = 7;
 
 const LENT_BYTES: usize = 65600;
 
+// What words lent for a list hold before the call, and more words than are lent for one.
+const UNTOUCHED_LONG: u32 = 7;
+
+const LIST_WORDS: usize = 9984;
+
 // The next byte of a file; past its end, 0.
 fn byte(file: &[u8], at: &mut usize) -> u8 {
     let i = *at;
@@ -344,6 +349,86 @@ fn replay_name(file: &[u8], at: &mut usize, tally: Tally) -> Tally {
     tally.with(answer == wide(file, at))
 }
 
+fn put_long(words: &mut [u32], at: usize, w: u32) {
+    if at < words.len() {
+        words[at] = w;
+    }
+}
+
+// A count, and so many words of a list, which go to its front. Tells how many.
+fn read_list(file: &[u8], at: &mut usize, to: &mut [u32]) -> usize {
+    let n = long(file, at);
+    let mut i: u32 = 0;
+    while i < n {
+        let w = long(file, at);
+        put_long(to, i as usize, w);
+        i += 1;
+    }
+    n as usize
+}
+
+// Whether two lists hold the same words.
+fn same_lists(x: &[u32], y: &[u32]) -> bool {
+    if x.len() != y.len() {
+        return false;
+    }
+    let mut i: usize = 0;
+    while i < x.len() {
+        if x[i] != y[i] {
+            return false;
+        }
+        i += 1;
+    }
+    true
+}
+
+// The names of a text listed with so many words lent.
+fn list(text: &[u8], words: &mut [u32], lent: usize) -> u64 {
+    let base: usize = 0;
+    if lent <= words.len() {
+        return export::dovetenon_list(text, &mut words[base..lent]);
+    }
+    export::dovetenon_list(text, words)
+}
+
+// A text, the answer to it, and the words that are written: those behind them stay as they were.
+fn replay_listing(file: &[u8], at: &mut usize, tally: Tally) -> Tally {
+    let mut words = [UNTOUCHED_LONG; LIST_WORDS];
+    let mut stored = [UNTOUCHED_LONG; LIST_WORDS];
+    let n = long(file, at) as usize;
+    let text = stretch(file, at, n);
+    let lent = long(file, at) as usize;
+    let answer = list(text, &mut words, lent);
+    let same = answer == wide(file, at);
+    read_list(file, at, &mut stored);
+    if same_lists(&words, &stored) {
+        return tally.with(same);
+    }
+    tally.with(false)
+}
+
+// The first so many words of a list, or as many as there are.
+fn front(list: &[u32], n: usize) -> &[u32] {
+    let base: usize = 0;
+    if n <= list.len() {
+        return &list[base..n];
+    }
+    list
+}
+
+// A text, a list, a kind, a name, and the name's number.
+fn replay_finding(file: &[u8], at: &mut usize, tally: Tally) -> Tally {
+    let mut list = [0u32; LIST_WORDS];
+    let n = long(file, at) as usize;
+    let text = stretch(file, at, n);
+    let words = read_list(file, at, &mut list);
+    let kind = long(file, at);
+    let bytes = long(file, at) as usize;
+    let name = stretch(file, at, bytes);
+    let number = export::dovetenon_find(text, front(&list, words), kind, name);
+    tally.with(number as u64 == wide(file, at))
+}
+
 // What the cases of a file are.
 enum Cases {
     Trials,
@@ -353,6 +438,8 @@ enum Cases {
     Readings,
     Fillings,
     Names,
+    Listings,
+    Findings,
 }
 
 fn replay_case(cases: Cases, file: &[u8], at: &mut usize, tally: Tally) -> Tally {
@@ -364,6 +451,8 @@ fn replay_case(cases: Cases, file: &[u8], at: &mut usize, tally: Tally) -> Tally
         Cases::Readings => replay_reading(file, at, tally),
         Cases::Fillings => replay_filling(file, at, tally),
         Cases::Names => replay_name(file, at, tally),
+        Cases::Listings => replay_listing(file, at, tally),
+        Cases::Findings => replay_finding(file, at, tally),
     }
 }
 
@@ -434,5 +523,17 @@ fn main() {
         b"name.cases",
         Cases::Names,
         b" stored names looked up, ",
+    );
+    replay(
+        &mut room,
+        b"list.cases",
+        Cases::Listings,
+        b" stored texts listed, ",
+    );
+    replay(
+        &mut room,
+        b"find.cases",
+        Cases::Findings,
+        b" stored names searched for, ",
     );
 }

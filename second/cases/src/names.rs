@@ -58,7 +58,7 @@ fn numbers(dice: &mut Dice, count: usize) -> BTreeSet<usize> {
 
 /// Names that stand in the text before their place, in parts of lines and in
 /// lines that are skipped; and domains that only a skipped line has.
-const ELSEWHERE: &str = "\
+pub const ELSEWHERE: &str = "\
 # - name: S
 object_map:
 - name: name

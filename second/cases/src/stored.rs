@@ -5,8 +5,8 @@
 
 use crate::dice::Dice;
 use crate::events::{self, OwnEvent};
-use crate::{fillings, names, readings, tables, texts};
-use second::{decode, fill, filler, first_fault, judge, overlap, read, Refusal, TABLE_WORDS};
+use crate::{fillings, findings, listings, names, readings, tables, texts};
+use second::{decode, fill, filler, first_fault, judge, list, overlap, read, Refusal, TABLE_WORDS};
 
 /// The codes of the trials' operations.
 const READ: u16 = 1;
@@ -16,12 +16,12 @@ const RETURN: u16 = 4;
 /// The seed of all stored cases.
 const SEED: u64 = 2_026;
 
-/// What each word of a table holds before it is read into, and each byte of an
-/// output before it is written.
+/// What each word of a table holds before it is read into, each byte of an
+/// output before it is written, and each word of a list.
 pub const UNTOUCHED: u8 = 7;
 
 /// Each file's name and its bytes.
-pub fn files() -> [(&'static str, Vec<u8>); 7] {
+pub fn files() -> [(&'static str, Vec<u8>); 9] {
     [
         ("trials.cases", trials()),
         ("judge.cases", judge_cases()),
@@ -30,6 +30,8 @@ pub fn files() -> [(&'static str, Vec<u8>); 7] {
         ("read.cases", read_cases()),
         ("fill.cases", fill_cases()),
         ("name.cases", name_cases()),
+        ("list.cases", list_cases()),
+        ("find.cases", find_cases()),
     ]
 }
 
@@ -56,6 +58,14 @@ fn put_words(out: &mut Vec<u8>, words: &[u16]) {
     put_u16(out, words.len() as u16);
     for &word in words {
         put_u16(out, word);
+    }
+}
+
+/// A length in thirty-two bits, then the words of a list.
+fn put_list(out: &mut Vec<u8>, list: &[u32]) {
+    put_u32(out, list.len() as u32);
+    for &word in list {
+        put_u32(out, word);
     }
 }
 
@@ -237,6 +247,40 @@ fn name_cases() -> Vec<u8> {
         put_u16(&mut out, question.map);
         put_u64(&mut out, question.domain as u64);
         put_u64(&mut out, question.answer(&text).packed());
+    }
+    out
+}
+
+fn list_cases() -> Vec<u8> {
+    let all = listings::all(SEED + 6);
+    let mut out = Vec::new();
+    put_u32(&mut out, all.len() as u32);
+    for (text, room) in all {
+        let mut words = vec![UNTOUCHED.into(); room];
+        let listing = list(&text, &mut words);
+        put_bytes(&mut out, &text);
+        put_u32(&mut out, room as u32);
+        put_u64(&mut out, second::names::answer(listing).packed());
+        // Nothing is written where there is too little room.
+        let written = listing.ok().and_then(|size| words.get(..size));
+        put_list(&mut out, written.unwrap_or_default());
+    }
+    out
+}
+
+fn find_cases() -> Vec<u8> {
+    let all = findings::all(SEED + 8);
+    let mut out = Vec::new();
+    let count: usize = all.iter().map(|finding| finding.searches.len()).sum();
+    put_u32(&mut out, count as u32);
+    for finding in &all {
+        for search in &finding.searches {
+            put_bytes(&mut out, &finding.text);
+            put_list(&mut out, &finding.list);
+            put_u32(&mut out, search.kind);
+            put_bytes(&mut out, &search.name);
+            put_u64(&mut out, finding.answer(search) as u64);
+        }
     }
     out
 }

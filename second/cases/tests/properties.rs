@@ -110,6 +110,90 @@ fn accepted(text: &[u8], table: &[u16]) {
     }
 }
 
+/// The names of a text, each with its kind and line.
+fn names_of(text: &[u8]) -> Vec<(u32, u32, &[u8])> {
+    let mut words = vec![0; LIST_WORDS];
+    let size = list(text, &mut words).unwrap();
+    let fours = words[..size].chunks_exact(4);
+    let name = |start: u32, bytes: u32| &text[start as usize..][..bytes as usize];
+    fours
+        .map(|four| (four[0], four[1], name(four[2], four[3])))
+        .collect()
+}
+
+#[test]
+fn lists_have_every_name_once_and_in_order() {
+    each_text(|dice, text| {
+        let policy = match policy_of(text) {
+            Ok(policy) => policy,
+            Err(refusal) => {
+                let mut words = [7; 20];
+                assert_eq!(list(text, &mut words), Err(refusal));
+                assert_eq!(words, [7; 20]);
+                return;
+            }
+        };
+        let all = names_of(text);
+        assert!(all.is_sorted_by_key(|(_, line, _)| line));
+        let count = |kind| all.iter().filter(|name| name.0 == kind).count();
+        let counts = [
+            policy.object_domains.into(),
+            policy.objects.len(),
+            policy.subject_domains.into(),
+            policy.functions.len(),
+            policy.entries.len(),
+        ];
+        assert_eq!([1, 2, 3, 4, 5].map(count), counts);
+        numbers_are_those_of_the_policy(&policy, &all);
+        let filled = filled(text).unwrap();
+        if filled.len() <= 65_536 {
+            let told = |all: Vec<(u32, u32, &[u8])>| -> Vec<(u32, Vec<u8>)> {
+                let one = |(kind, _, name): (u32, u32, &[u8])| (kind, name.to_vec());
+                all.into_iter().map(one).collect()
+            };
+            assert_eq!(told(names_of(&filled)), told(all.clone()));
+        }
+        names_are_found(dice, text, &all);
+    });
+}
+
+/// A member belongs to the domain that was named last before it; an entry's
+/// name is that of its subject.
+fn numbers_are_those_of_the_policy(policy: &Policy, all: &[(u32, u32, &[u8])]) {
+    let mut counts = [0usize; 6];
+    let mut subjects = Vec::new();
+    for &(kind, _, name) in all {
+        let number = counts[kind as usize];
+        let domain = |kind: usize| counts[kind] as u16 - 1;
+        match kind {
+            2 => assert_eq!(policy.objects[number], domain(1)),
+            3 => subjects.push(name),
+            4 => assert_eq!(policy.functions[number], domain(3)),
+            5 => {
+                let subject = policy.entries[number].subject;
+                assert_eq!(subjects[usize::from(subject)], name);
+            }
+            _ => {}
+        }
+        counts[kind as usize] += 1;
+    }
+}
+
+/// Each name is found at its number; an entry at that of its subject's first.
+fn names_are_found(dice: &mut Dice, text: &[u8], all: &[(u32, u32, &[u8])]) {
+    let mut words = vec![0; LIST_WORDS];
+    let size = list(text, &mut words).unwrap();
+    for _ in 0..all.len().min(20) {
+        let (kind, _, name) = *dice.pick(all);
+        let of_kind: Vec<&[u8]> = all.iter().filter(|n| n.0 == kind).map(|n| n.2).collect();
+        let number = find(text, &words[..size], kind, name);
+        assert_eq!(of_kind[number], name);
+        assert!(!of_kind[..number].contains(&name));
+        let none = find(text, &words[..size], kind, b"[");
+        assert_eq!(none, of_kind.len());
+    }
+}
+
 fn check_fill(dice: &mut Dice, text: &[u8], answer: Result<(), Refusal>, fills: &mut Mix) {
     let room = match filled(text) {
         Ok(filled) if dice.percent(80) => filled.len() + dice.below(4),

@@ -2,14 +2,16 @@
 //! README says they do.
 
 use cases::events::OwnEvent;
+use cases::findings::{Finding, Search};
 use cases::names::Question;
 use cases::stored::{files, runs, UNTOUCHED};
 use cases::{fillings, readings};
 use second::answer::REFUSED;
 use second::{
-    fill, filled, filler, first_fault, judge, overlap, policy_of, read, Answer, Overlap, Refusal,
-    Verdict, EXAMPLE, TABLE_WORDS,
+    fill, filled, filler, first_fault, judge, list, names, overlap, policy_of, read, Answer,
+    Overlap, Refusal, Verdict, EXAMPLE, TABLE_WORDS,
 };
+use std::cmp::Ordering::{Equal, Greater, Less};
 use std::collections::HashSet;
 use std::path::Path;
 
@@ -23,7 +25,9 @@ fn stored_files_are_made_again_byte_for_byte() {
 
 #[test]
 fn stored_files_are_small() {
-    let limits = [1_000, 159_000, 150_000, 100_000, 150_000, 299_000, 50_000];
+    let limits = [
+        1_000, 159_000, 150_000, 100_000, 150_000, 299_000, 50_000, 150_000, 100_000,
+    ];
     for ((name, bytes), limit) in files().iter().zip(limits) {
         assert!(bytes.len() < limit, "{name}: {}", bytes.len());
     }
@@ -59,6 +63,11 @@ impl Replay {
     fn words(&mut self) -> Vec<u16> {
         let count = self.number(2);
         (0..count).map(|_| self.number(2) as u16).collect()
+    }
+
+    fn list(&mut self) -> Vec<u32> {
+        let count = self.number(4);
+        (0..count).map(|_| self.number(4) as u32).collect()
     }
 
     /// An event and its answer.
@@ -252,6 +261,94 @@ fn name_cases_replay() {
     // A text that is too long does not fit in here.
     let both = |number| [(1, number), (2, number)];
     assert_eq!(refused, (3..=11).flat_map(both).collect());
+}
+
+#[test]
+fn list_cases_replay() {
+    let mut replay = Replay::of("list.cases");
+    let (mut seen, mut spare) = (HashSet::new(), HashSet::new());
+    let mut longest = 0;
+    for _ in 0..replay.number(4) {
+        let text = replay.bytes();
+        let mut words = vec![UNTOUCHED.into(); replay.number(4) as usize];
+        let listing = list(&text, &mut words);
+        let answer = names::answer(listing);
+        assert_eq!(answer, Answer::of(replay.number(8)));
+        let mut stored = replay.list();
+        stored.resize(words.len(), UNTOUCHED.into());
+        assert_eq!(words, stored);
+        seen.insert((answer.class, answer.value));
+        longest = longest.max(words.len());
+        if let Ok(size) = listing {
+            spare.insert(words.len() as i64 - size as i64);
+        }
+    }
+    assert_eq!(replay.at, replay.bytes.len());
+    // A text that is too long does not fit in here.
+    let refusals = (3..=11).map(|number| (REFUSED, number));
+    assert_eq!(seen, refusals.chain([(2, 0)]).collect());
+    // No room for the example, one word too few, just enough, and more.
+    for needed in [-32, -1, 0, 5] {
+        assert!(spare.contains(&needed), "{needed}");
+    }
+    // `crates/replay` has room for so many words.
+    assert!(longest < 9_984);
+}
+
+#[test]
+fn find_cases_replay() {
+    let mut replay = Replay::of("find.cases");
+    let (mut seen, mut ends) = (HashSet::new(), HashSet::new());
+    for _ in 0..replay.number(4) {
+        let (text, list) = (replay.bytes(), replay.list());
+        let (kind, name) = (replay.number(4) as u32, replay.bytes());
+        let searches = Vec::new();
+        let finding = Finding {
+            text,
+            list,
+            searches,
+        };
+        let answer = finding.answer(&Search {
+            kind,
+            name: name.clone(),
+        });
+        assert_eq!(answer as u64, replay.number(8));
+        let fours = || finding.list.chunks_exact(4);
+        let of_kind = fours().filter(|four| four[0] == kind).count();
+        seen.insert((kind, answer < of_kind, name.is_empty()));
+        let size = finding.text.len() as u64;
+        ends.extend(fours().map(|four| {
+            let (start, bytes) = (u64::from(four[2]), u64::from(four[3]));
+            (
+                start.cmp(&size),
+                start + bytes > size,
+                (start + bytes) >> 32 > 0,
+            )
+        }));
+    }
+    assert_eq!(replay.at, replay.bytes.len());
+    let kinds = [0, 6, 257, 65_537, u32::MAX].map(|kind| (kind, false, false));
+    let there = [1, 2, 3, 4, 5].map(|kind| (kind, true, false));
+    let none = [1, 2, 3, 4, 5].map(|kind| (kind, false, false));
+    let empty = [(1, true, true), (1, false, true)];
+    let needed = kinds.into_iter().chain(there).chain(none).chain(empty);
+    for needed in needed {
+        assert!(seen.contains(&needed), "{needed:?}");
+    }
+    // A stretch in the text, one that is cut, and those that start at the text's
+    // end and behind it; some of which end past 32 bits.
+    let needed = [
+        (Less, false, false),
+        (Less, true, false),
+        (Less, true, true),
+        (Equal, false, false),
+        (Equal, true, false),
+        (Greater, true, false),
+        (Greater, true, true),
+    ];
+    for needed in needed {
+        assert!(ends.contains(&needed), "{needed:?}");
+    }
 }
 
 /// Each field that may be put in several ways is put in each.

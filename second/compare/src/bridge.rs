@@ -7,7 +7,7 @@ use std::process::{Child, ChildStdin, ChildStdout, Command, Stdio};
 use std::sync::mpsc::{channel, Receiver, Sender};
 use std::thread;
 
-/// Where `bridge/build` leaves the command that runs the bridge.
+/// Where `command/build bridge` leaves the command that runs the bridge.
 const USUAL: &str = concat!(env!("CARGO_MANIFEST_DIR"), "/../../target/bridge/run");
 
 /// The command asked for, or the one in DOVETENON_BRIDGE, or the usual one.
@@ -81,7 +81,7 @@ impl Process {
         command.stdin(Stdio::piped()).stdout(Stdio::piped());
         let mut child = command.spawn().map_err(|error| {
             let name = command.get_program().to_string_lossy();
-            format!("the bridge {name} does not start: {error} (bridge/build makes it)")
+            format!("the bridge {name} does not start: {error} (command/build makes it)")
         })?;
         let (Some(mut input), Some(mut output)) = (child.stdin.take(), child.stdout.take()) else {
             return Err("the bridge has no pipes".to_string());

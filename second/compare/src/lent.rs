@@ -14,6 +14,19 @@ pub trait Value: Copy + PartialEq + Debug {
     fn get(bytes: &[u8]) -> Self;
 }
 
+impl Value for u32 {
+    const SIZE: usize = 4;
+    const CANARY: u32 = 0xC0DE_CAFE;
+
+    fn put(self, bytes: &mut Vec<u8>) {
+        bytes.extend_from_slice(&self.to_le_bytes());
+    }
+
+    fn get(bytes: &[u8]) -> u32 {
+        u32::from_le_bytes([bytes[0], bytes[1], bytes[2], bytes[3]])
+    }
+}
+
 impl Value for u16 {
     const SIZE: usize = 2;
     const CANARY: u16 = 0xC0DE;

@@ -9,8 +9,10 @@
 pub mod bridge;
 pub mod case;
 pub mod fill;
+pub mod find;
 pub mod judge;
 pub mod lent;
+pub mod list;
 pub mod name;
 pub mod options;
 pub mod overlap;

@@ -12,7 +12,8 @@ stops at the first difference.
   --count N                  so many cases of each function; else 10,000
   --from N                   the first case's number; else 0
   --only NAME                this function alone: well_formed, judge, judge_known,
-                             overlap, page, read, fill or name; else all
+                             overlap, page, read, fill, name, list or find;
+                             else all
   --need NAME,NAME           fail if one of these is not there
   --exact-witness on or off  whether the witness must be the lowest of the
                              shortest; else on

@@ -4,7 +4,7 @@ use crate::bridge::Bridge;
 use crate::case::{Check, Mix};
 use crate::options::Options;
 use crate::wire::{Function, Replies, Requests};
-use crate::{fill, judge, name, overlap, page, read, well_formed};
+use crate::{fill, find, judge, list, name, overlap, page, read, well_formed};
 use cases::Dice;
 use std::io::{self, Write};
 use std::ops::Range;
@@ -22,6 +22,8 @@ fn ask(function: Function) -> Ask {
         Function::Read => read::ask,
         Function::Fill => fill::ask,
         Function::Name => name::ask,
+        Function::List => list::ask,
+        Function::Find => find::ask,
     }
 }
 

@@ -2,6 +2,7 @@
 
 use cases::events::OwnEvent;
 use cases::stored::runs;
+use second::names::FOUR;
 
 /// A table as its length and the stretches of it that are not zero.
 pub fn table(words: &[u16]) -> String {
@@ -17,6 +18,15 @@ pub fn text(text: &[u8]) -> String {
     let mut out = format!("text of {} bytes:", text.len());
     for (place, line) in text.split_inclusive(|&byte| byte == b'\n').enumerate() {
         out += &format!("\n  {}: \"{}\"", place + 1, line.escape_ascii());
+    }
+    out
+}
+
+/// A list, each four of its words on a line of its own.
+pub fn list(words: &[u32]) -> String {
+    let mut out = format!("list of {} words:", words.len());
+    for four in words.chunks(FOUR) {
+        out += &format!("\n  {four:?}");
     }
     out
 }

@@ -14,10 +14,12 @@ pub enum Function {
     Read,
     Fill,
     Name,
+    List,
+    Find,
 }
 
 impl Function {
-    pub const ALL: [Function; 8] = [
+    pub const ALL: [Function; 10] = [
         Function::WellFormed,
         Function::Judge,
         Function::JudgeKnown,
@@ -26,6 +28,8 @@ impl Function {
         Function::Read,
         Function::Fill,
         Function::Name,
+        Function::List,
+        Function::Find,
     ];
 
     pub fn name(self) -> &'static str {
@@ -38,6 +42,8 @@ impl Function {
             Function::Read => "read",
             Function::Fill => "fill",
             Function::Name => "name",
+            Function::List => "list",
+            Function::Find => "find",
         }
     }
 }

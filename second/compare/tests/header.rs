@@ -1,8 +1,8 @@
 //! `include/dovetenon.h` and its example say what the plain program says.
 
 use second::judge::FRAMES;
-use second::{filler, lookup, refusal, EXAMPLE, TABLE_WORDS, WITNESS_WORDS};
-use second::{Map, Overlap, Refusal, Verdict};
+use second::{filler, lookup, names, refusal, EXAMPLE, LIST_WORDS, TABLE_WORDS, WITNESS_WORDS};
+use second::{Kind, Map, Overlap, Refusal, Verdict};
 use std::collections::BTreeMap;
 
 fn file(name: &str) -> String {
@@ -10,7 +10,7 @@ fn file(name: &str) -> String {
 }
 
 /// The names of the header and the number of each.
-fn names() -> BTreeMap<String, usize> {
+fn header_names() -> BTreeMap<String, usize> {
     let header = file("include/dovetenon.h");
     let named = header.lines().filter_map(|line| {
         let line = line.trim().strip_prefix("DOVETENON_")?;
@@ -64,12 +64,15 @@ fn every_name_of_the_header_is_the_plain_number() {
         ("FILLING_WRITTEN", filler::answer(Ok(0))),
         ("NAME_NONE", lookup::answer(None)),
         ("NAME_FOUND", lookup::answer(name)),
+        ("LISTING_REFUSED", names::answer(Err(Refusal::of(2)))),
+        ("LISTING_LISTED", names::answer(Ok(0))),
     ];
     let others = [
         ("TABLE_WORDS", TABLE_WORDS),
         ("FRAMES", FRAMES),
         ("WITNESS_WORDS", WITNESS_WORDS),
         ("TEXT_BYTES", 65_536),
+        ("LIST_WORDS", LIST_WORDS),
         ("READ", 1),
         ("WRITE", 2),
         ("CALL", 3),
@@ -80,12 +83,31 @@ fn every_name_of_the_header_is_the_plain_number() {
         ("NONE_GRANTS", 4),
         ("OBJECT_MAP", Map::Objects as usize),
         ("SUBJECT_MAP", Map::Subjects as usize),
+        ("KIND_OBJECT_DOMAIN", Kind::ObjectDomain as usize),
+        ("KIND_OBJECT", Kind::Object as usize),
+        ("KIND_SUBJECT_DOMAIN", Kind::SubjectDomain as usize),
+        ("KIND_FUNCTION", Kind::Function as usize),
+        ("KIND_ENTRY", Kind::Entry as usize),
+    ];
+    let lists = [
+        ("KIND_OBJECT_DOMAIN", 1),
+        ("KIND_OBJECT", 2),
+        ("KIND_SUBJECT_DOMAIN", 3),
+        ("KIND_FUNCTION", 4),
+        ("KIND_ENTRY", 5),
+        ("LIST_WORDS", 4 * (128 + 1_024 + 128 + 1_024 + 128)),
+        ("LISTING_REFUSED", 1),
+        ("LISTING_LISTED", 2),
     ];
     let refusals = refusals.map(|(name, number)| (name, usize::from(number)));
     let classes = classes.map(|(name, answer)| (name, usize::from(answer.class)));
-    let all = refusals.into_iter().chain(classes).chain(others);
+    let all = refusals
+        .into_iter()
+        .chain(classes)
+        .chain(others)
+        .chain(lists);
     let expected = all.map(|(name, number)| (name.to_string(), number));
-    assert_eq!(names(), expected.collect());
+    assert_eq!(header_names(), expected.collect());
 }
 
 #[test]

@@ -35,6 +35,8 @@ fn a_right_stand_in_is_equal() {
         "read",
         "fill",
         "name",
+        "list",
+        "find",
     ];
     for name in names {
         let line = format!("{name}: 300 cases equal\n");
@@ -248,6 +250,74 @@ fn wrong_names_are_found() {
     }
 }
 
+#[test]
+fn wrong_lists_are_found() {
+    let faults = [
+        (
+            "a text is listed though a rule refuses it",
+            "plain:  Answer { class: 1",
+        ),
+        (
+            "as many words as were lent",
+            "proved: Answer { class: 2, value: 0, rest: 0 }",
+        ),
+        ("a short list is written in part", "list: place 0"),
+        ("the word behind the list is cleared", "is Some(0)"),
+        ("a refused text clears a word", "list: place 0 is Some(0)"),
+        ("a member is on its domain's line", "list: place"),
+        ("an entry is on its subject's line", "list: place"),
+        ("functions are objects", "is Some(2), expected Some(4)"),
+        ("places are counted from 1", "list: place 2"),
+        ("the end stands for the length", "list: place 3"),
+        ("the list goes kind by kind", "list: place"),
+        (
+            "the place past what is lent is changed",
+            "list: written outside",
+        ),
+        ("a text is changed", "text: place 0"),
+    ];
+    for (fault, told) in faults {
+        found(fault, "--only list", &["text of", "list of", told]);
+    }
+}
+
+#[test]
+fn wrong_numbers_of_names_are_found() {
+    let faults = [
+        "a rest is looked at",
+        "what starts behind the end is left out",
+        "what ends behind the end is left out",
+        "kinds are cut to 8 bits",
+        "kinds are cut to 16 bits",
+        "every kind is the one",
+        "starts are cut to 16 bits",
+        "lengths are cut to 16 bits",
+        "ends are cut to 32 bits",
+        "a front is enough",
+        "the last one",
+        "bytes behind the text are looked at",
+        "none is 0",
+        "numbers are counted from 1",
+        "an empty name is not there",
+    ];
+    for fault in faults {
+        let words = ["text of", "list of", "kind ", "proved: "];
+        found(fault, "--only find", &words);
+    }
+    let faults = [
+        ("a text is changed", "plain: "),
+        ("a list is changed", "plain: "),
+        ("a name is changed", "name: place 0"),
+        (
+            "the word behind the list is changed",
+            "list: written outside",
+        ),
+    ];
+    for (fault, told) in faults {
+        found(fault, "--only find", &["text of", "list of", told]);
+    }
+}
+
 /// These outcomes are among the cases that the gate runs.
 fn has_outcomes(function: &str, refusals: impl Iterator<Item = u16>, others: &[&str]) {
     let line = format!("--only {function} --count 3000");
@@ -282,6 +352,22 @@ fn names_have_every_outcome() {
         "no such map",
     ];
     has_outcomes("name", 2..=11, &others);
+}
+
+#[test]
+fn lists_have_every_outcome() {
+    has_outcomes("list", 2..=11, &["listed", "too little room"]);
+}
+
+#[test]
+fn searches_have_every_outcome() {
+    let others = [
+        "found",
+        "an empty name found",
+        "not there",
+        "none of the kind",
+    ];
+    has_outcomes("find", 0..0, &others);
 }
 
 #[test]
@@ -350,6 +436,8 @@ fn bench_times_a_stand_in_and_finds_other_answers() {
         "page: one hash",
         "fill: short entries",
         "name: long names",
+        "list: long names",
+        "find: long names",
         "both proved: every limit           read ",
         "the table test",
         "the report",
@@ -363,6 +451,8 @@ fn bench_times_a_stand_in_and_finds_other_answers() {
         "the last word is wrong",
         "the byte behind the filled text is cleared",
         "a start one late",
+        "the list goes kind by kind",
+        "numbers are counted from 1",
     ];
     for fault in faults {
         let wrong = run(fault);

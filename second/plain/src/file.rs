@@ -12,7 +12,7 @@ pub struct Word<'t> {
 #[derive(Clone, Debug, PartialEq, Eq)]
 pub struct List<'t> {
     pub line: u32,
-    pub elements: Vec<&'t [u8]>,
+    pub elements: Vec<Word<'t>>,
 }
 
 /// `all` (also when omitted) or a list (also when bare: then of none).

@@ -27,15 +27,7 @@ pub fn write(filled: &[u8], output: &mut [u8]) -> Result<usize, Refusal> {
 /// What is answered: a refusal with its number and line, or class 2, written,
 /// with the size of the filled text.
 pub fn answer(filling: Result<usize, Refusal>) -> Answer {
-    match filling {
-        Ok(size) => Answer {
-            class: 2,
-            value: 0,
-            // At most 65,536.
-            rest: size as u32,
-        },
-        Err(refusal) => Refusal::answer(Some(refusal)),
-    }
+    Refusal::answer_or_size(filling)
 }
 
 /// The filled text, however long it is; refusals 2 to 11.
@@ -62,7 +54,8 @@ fn line(out: &mut Vec<u8>, before: &str, value: &[u8]) {
     out.push(b'\n');
 }
 
-fn list(elements: &[&[u8]]) -> Vec<u8> {
+fn list(elements: &[Word<'_>]) -> Vec<u8> {
+    let elements: Vec<&[u8]> = elements.iter().map(|element| element.bytes).collect();
     [b"[", &elements.join(&b", "[..])[..], b"]"].concat()
 }
 

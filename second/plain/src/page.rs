@@ -81,12 +81,13 @@ fn field<'t>(line: &Line<'t>) -> Option<Field<'t>> {
 
 /// The elements of `[]` or `[a, b]`, "with one space after each comma and
 /// none elsewhere"; the elements themselves are not judged here.
-fn elements(value: &[u8]) -> Option<Vec<&[u8]>> {
-    let between = value.strip_prefix(b"[")?.strip_suffix(b"]")?;
+fn elements(list: Word<'_>) -> Option<Vec<Word<'_>>> {
+    let between = list.bytes.strip_prefix(b"[")?.strip_suffix(b"]")?;
     if between.is_empty() {
         return Some(Vec::new());
     }
     let mut all = Vec::new();
+    let mut start = list.start + 1;
     for (place, piece) in between.split(|&byte| byte == b',').enumerate() {
         let element = if place == 0 {
             piece
@@ -96,7 +97,12 @@ fn elements(value: &[u8]) -> Option<Vec<&[u8]>> {
         if element.contains(&b' ') {
             return None;
         }
-        all.push(element);
+        all.push(Word {
+            line: list.line,
+            start: start + piece.len() - element.len(),
+            bytes: element,
+        });
+        start += piece.len() + 1;
     }
     Some(all)
 }
@@ -121,10 +127,10 @@ impl<'t> Field<'t> {
         let Some(word) = self.value else {
             return self.refused(EMPTY);
         };
-        let Some(elements) = elements(word.bytes) else {
+        let Some(elements) = elements(word) else {
             return self.refused(LAYOUT);
         };
-        if !elements.iter().all(|element| good(element)) {
+        if !elements.iter().all(|element| good(element.bytes)) {
             return self.refused(SCALAR);
         }
         Ok(List {

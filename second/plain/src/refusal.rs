@@ -54,4 +54,15 @@ impl Refusal {
         };
         Answer { class, value, rest }
     }
+
+    /// What is answered where something is made of a text: a refusal likewise,
+    /// or class 2 with its size.
+    pub fn answer_or_size(made: Result<usize, Refusal>) -> Answer {
+        let accepted = |size| Answer {
+            // At most 65,536.
+            rest: size as u32,
+            ..Refusal::answer(None)
+        };
+        made.map_or_else(|refusal| Refusal::answer(Some(refusal)), accepted)
+    }
 }

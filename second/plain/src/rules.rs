@@ -95,7 +95,7 @@ fn repeats(file: &File<'_>) -> Vec<u32> {
 fn repeats_in<'t>(list: &List<'t>, seen: &mut HashSet<&'t [u8]>) -> Option<u32> {
     let mut line = None;
     for element in &list.elements {
-        if !seen.insert(element) {
+        if !seen.insert(element.bytes) {
             line = Some(list.line);
         }
     }
@@ -141,7 +141,8 @@ fn numbered<'t>(names: impl Iterator<Item = &'t [u8]>) -> HashMap<&'t [u8], u16>
 }
 
 fn members<'f, 't>(map: &'f [Domain<'t>]) -> impl Iterator<Item = &'t [u8]> + use<'f, 't> {
-    map.iter().flat_map(|d| d.members.elements.iter().copied())
+    map.iter()
+        .flat_map(|d| d.members.elements.iter().map(|member| member.bytes))
 }
 
 /// The domain of each member of a map.
@@ -198,9 +199,9 @@ impl<'t> Numbers<'t> {
         for name in &list.elements {
             // "A name of the other map is not in this one" (point 17).
             let number = if objects {
-                self.object_domains.get(name).copied()
+                self.object_domains.get(name.bytes).copied()
             } else {
-                self.subject_domains.get(name).copied()
+                self.subject_domains.get(name.bytes).copied()
             };
             domains.insert(self.found(number, list.line));
         }
@@ -224,7 +225,7 @@ impl<'t> Numbers<'t> {
     fn context(&mut self, context: &Context<'t>) -> policy::Context {
         let mut pattern = vec![Element::All];
         if let Some(list) = &context.call_context {
-            let element = |name: &&'t [u8]| self.element(name, list.line);
+            let element = |name: &Word<'t>| self.element(name.bytes, list.line);
             pattern = list.elements.iter().map(element).collect();
         }
         let uid = match context.uid.map(|word| word.bytes) {

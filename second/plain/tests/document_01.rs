@@ -283,6 +283,108 @@ fn a_name_is_answered_with_class_length_and_start() {
     }
 }
 
+/// Kind, line, start and bytes of each name of the example.
+const LISTED: [[u32; 4]; 8] = [
+    [1, 2, 20, 5],
+    [2, 3, 38, 16],
+    [3, 5, 77, 4],
+    [4, 6, 95, 8],
+    [3, 7, 113, 4],
+    [4, 8, 131, 7],
+    [4, 8, 140, 7],
+    [5, 10, 187, 4],
+];
+
+#[test]
+fn names_are_listed_in_file_order() {
+    let text = EXAMPLE.as_bytes();
+    let mut words = vec![9; 34];
+    assert_eq!(list(text, &mut words), Ok(32));
+    assert_eq!(words, [&LISTED.concat()[..], &[9, 9]].concat());
+    // Too little room: it is told how much there must be.
+    for room in [0, 31] {
+        let mut words = vec![9; room];
+        assert_eq!(list(text, &mut words), Ok(32));
+        assert_eq!(words, vec![9; room]);
+    }
+    let mut words = vec![9; 32];
+    let refusal = list(&text[..text.len() - 1], &mut words);
+    assert_eq!(refusal, Err(Refusal::at(4, 18)));
+    assert_eq!(words, vec![9; 32]);
+    let packed = |listing| names::answer(listing).packed();
+    assert_eq!(packed(Ok(32)), 32 << 32 | 2 << 16);
+    assert_eq!(packed(refusal), 18 << 32 | 1 << 16 | 4);
+    assert_eq!(LIST_WORDS, 9_728);
+}
+
+/// Lines that are skipped are counted, and a name's line is not always its own.
+#[test]
+fn a_listed_line_is_that_of_the_list_or_the_principal() {
+    let before = "\n#\n";
+    let text = EXAMPLE.replace("    subject: ", &format!("{before}    subject: "));
+    let text = text.replace("  objects: [G", &format!("{before}  objects: [G"));
+    let mut words = vec![0; 32];
+    assert_eq!(list(text.as_bytes(), &mut words), Ok(32));
+    // Two lines more from the objects on; the principal stands before its own.
+    let four = |place: usize| &words[4 * place..][..4];
+    assert_eq!(four(0), [1, 2, 20, 5]);
+    assert_eq!(four(1), [2, 5, 41, 16]);
+    assert_eq!(four(7), [5, 12, 193, 4]);
+}
+
+#[test]
+fn names_are_found_by_kind_and_number() {
+    let words = LISTED.concat();
+    let number = |kind, name: &str| find(EXAMPLE.as_bytes(), &words, kind, name.as_bytes());
+    let there = [
+        (1, "Meter", 0),
+        (2, "GLOBAL|m.c|4|kwh", 0),
+        (3, "Bill", 1),
+        (4, "b.c|sum", 2),
+        (5, "Bill", 0),
+    ];
+    for (kind, name, found) in there {
+        assert_eq!(number(kind, name), found);
+    }
+    let none = [
+        (1, "Main", 1),
+        (3, "Meter", 2),
+        (4, "b.c|su", 3),
+        (4, "b.c|sum]", 3),
+        (4, "", 3),
+        (0, "Meter", 0),
+        (6, "Meter", 0),
+    ];
+    for (kind, name, count) in none {
+        assert_eq!(number(kind, name), count);
+    }
+}
+
+/// Whatever the words and the text are.
+#[test]
+fn any_list_is_searched() {
+    let huge = u32::MAX;
+    let list = [
+        [7, huge, 3, 0], // empty, at the end
+        [7, 0, 1, huge], // cut where the text ends
+        [8, 0, 0, 2],
+        [7, 0, huge, huge], // behind the end: empty
+        [7, 0, 0, 2],
+        [7, 0, 0, 2],
+    ];
+    let mut words = list.concat();
+    words.extend([7, 0, 0]); // a rest
+    let number = |name: &[u8]| find(b"aba", &words, 7, name);
+    assert_eq!(number(b""), 0);
+    assert_eq!(number(b"ba"), 1);
+    assert_eq!(number(b"ab"), 3);
+    assert_eq!(number(b"a"), 5);
+    assert_eq!(find(b"aba", &words, 8, b"ab"), 0);
+    assert_eq!(find(b"aba", &words[4..], 7, b""), 1);
+    assert_eq!(find(b"", &words, 7, b""), 0);
+    assert_eq!(find(b"aba", &[], 7, b""), 0);
+}
+
 #[test]
 fn slips_to_expect() {
     let all = Element::All;

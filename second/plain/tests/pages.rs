@@ -307,6 +307,8 @@ fn run(name: &'static str) -> BTreeSet<String> {
                 let text = example.as_ref().unwrap();
                 seen.extend(block.lines.iter().map(|trial| tried(text, trial, &place)));
             }
+            // Lines for the command, which command/test runs.
+            "events" | "verdicts" => {}
             mark => panic!("{place}: what is a block marked `{mark}`?"),
         }
     }

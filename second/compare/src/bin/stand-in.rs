@@ -7,11 +7,12 @@ use compare::lent::{Lent, Value};
 use compare::wire::{Call, Function, CALL, LEND, SHOW, TIME, WHAT_IS_HERE};
 use second::file::Word;
 use second::lookup::{self, name_in};
+use second::names::{self, Kind, FOUR};
 use second::policy::ELEMENTS;
 use second::refusal::{EMPTY, LAYOUT, LONG_FILLED, SHORT_OUTPUT, SHORT_TABLE, TWICE, UNKNOWN};
 use second::table::{ENTRIES_AT, ENTRY_WORDS, PATTERN_AT, UNUSED_AT};
 use second::{
-    filled, filler, first_fault, page, well_formed, Event, Map, Overlap, Refusal, Verdict,
+    filled, filler, find, first_fault, page, well_formed, Event, Map, Overlap, Refusal, Verdict,
     TABLE_WORDS,
 };
 use std::collections::BTreeMap;
@@ -149,6 +150,8 @@ fn answer(fault: &str, slots: &mut Slots, call: &Call) -> u64 {
         Function::Read => written(fault, slots, call, taken),
         Function::Fill => written(fault, slots, call, filled_out),
         Function::Name => looked_up(fault, slots, call),
+        Function::List => written(fault, slots, call, listed),
+        Function::Find => found(fault, slots, call),
     }
 }
 
@@ -345,5 +348,120 @@ fn of_refused(text: &[u8], map: u16, domain: usize) -> Option<Word<'_>> {
     match first_fault(text) {
         None => name_in(&page::file(text).ok()?, Map::of(map)?, domain),
         Some(_) => None,
+    }
+}
+
+fn listed(fault: &str, text: &[u8], list: &mut [u32]) -> u64 {
+    let room = list.len();
+    let mut listing = names::list(text, list);
+    match (fault, listing) {
+        ("a text is listed though a rule refuses it", Err(_)) => {
+            listing = page::file(text)
+                .map(|file| FOUR * names::named(&file).len())
+                .or(listing);
+        }
+        ("as many words as were lent", Ok(_)) => listing = Ok(room),
+        ("a short list is written in part", Ok(size)) if size > room => {
+            let words = names::listed(text).unwrap_or_default();
+            list.copy_from_slice(&words[..room]);
+        }
+        ("the word behind the list is cleared", Ok(size)) if size < room => list[size] = 0,
+        ("a refused text clears a word", Err(_)) if room > 0 => list[0] = 0,
+        (_, Ok(size)) if size <= room => misname(fault, &mut list[..size]),
+        _ => {}
+    }
+    names::answer(listing).packed()
+}
+
+/// Makes a list that was written wrong.
+fn misname(fault: &str, list: &mut [u32]) {
+    let mut fours: Vec<[u32; FOUR]> = Vec::new();
+    for four in list.chunks_exact(FOUR) {
+        let [kind, line, start, bytes] = [four[0], four[1], four[2], four[3]];
+        let is = |some: Kind| kind == some as u32;
+        fours.push(match fault {
+            "a member is on its domain's line" if is(Kind::Object) || is(Kind::Function) => {
+                [kind, line - 1, start, bytes]
+            }
+            "an entry is on its subject's line" if is(Kind::Entry) => {
+                [kind, line + 1, start, bytes]
+            }
+            "functions are objects" if is(Kind::Function) => {
+                [Kind::Object as u32, line, start, bytes]
+            }
+            "places are counted from 1" => [kind, line, start + 1, bytes],
+            "the end stands for the length" => [kind, line, start, start + bytes],
+            _ => [kind, line, start, bytes],
+        });
+    }
+    if fault == "the list goes kind by kind" {
+        fours.sort_by_key(|four| four[0]);
+    }
+    list.copy_from_slice(&fours.concat());
+}
+
+/// Searches for a name and leaves in the slots what was lent.
+fn found(fault: &str, slots: &mut Slots, call: &Call) -> u64 {
+    let (mut text, mut name) = (lent::<u8>(slots, call, 0), lent::<u8>(slots, call, 2));
+    let mut list = lent::<u32>(slots, call, 1);
+    let answer = number_of(fault, text.get(), list.get(), call.numbers[0], name.get());
+    change_text(fault, &mut text);
+    match fault {
+        "a list is changed" => list.get_mut().fill(0),
+        "the word behind the list is changed" => change_past(&mut list),
+        "a name is changed" => name.get_mut().fill(b' '),
+        _ => {}
+    }
+    slots.insert(call.slots[0], text.bytes());
+    slots.insert(call.slots[1], list.bytes());
+    slots.insert(call.slots[2], name.bytes());
+    answer as u64
+}
+
+/// The number of a name, often right by another list than the one lent.
+fn number_of(fault: &str, text: &[u8], list: &[u32], kind: u32, name: &[u8]) -> usize {
+    let mut fours: Vec<Vec<u32>> = list.chunks(FOUR).map(<[u32]>::to_vec).collect();
+    if fault == "a rest is looked at" {
+        fours.iter_mut().for_each(|four| four.resize(FOUR, 0));
+    }
+    fours.retain(|four| four.len() == FOUR);
+    let size = text.len() as u64;
+    let end = |four: &[u32]| u64::from(four[2]) + u64::from(four[3]);
+    match fault {
+        "what starts behind the end is left out" => fours.retain(|four| u64::from(four[2]) <= size),
+        "what ends behind the end is left out" => fours.retain(|four| end(four) <= size),
+        _ => {}
+    }
+    for four in &mut fours {
+        match fault {
+            "kinds are cut to 8 bits" => four[0] %= 1 << 8,
+            "kinds are cut to 16 bits" => four[0] %= 1 << 16,
+            "every kind is the one" => four[0] = kind,
+            "starts are cut to 16 bits" => four[2] %= 1 << 16,
+            "lengths are cut to 16 bits" => four[3] %= 1 << 16,
+            "ends are cut to 32 bits" => four[3] = (end(four) as u32).saturating_sub(four[2]),
+            "a front is enough" => four[3] = four[3].min(name.len() as u32),
+            _ => {}
+        }
+    }
+    let of_kind = fours.iter().filter(|four| four[0] == kind).count();
+    if fault == "the last one" {
+        fours.reverse();
+    }
+    let number = match fault {
+        "bytes behind the text are looked at" => find(
+            &[text, &[u8::CANARY; 8]].concat(),
+            &fours.concat(),
+            kind,
+            name,
+        ),
+        _ => find(text, &fours.concat(), kind, name),
+    };
+    match fault {
+        "the last one" if number < of_kind => of_kind - 1 - number,
+        "none is 0" if number == of_kind => 0,
+        "numbers are counted from 1" => number + 1,
+        "an empty name is not there" if name.is_empty() => of_kind,
+        _ => number,
     }
 }

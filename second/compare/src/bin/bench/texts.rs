@@ -1,13 +1,14 @@
-//! The whole reader, the page check alone, the filler, and the name of one
-//! domain, on large texts.
+//! The whole reader, the page check alone, the filler, the name of one domain,
+//! the list of names and the number of one, on large texts.
 
 use crate::timing::{exchange, figure, Bench, Calls, Figure};
 use cases::large::{self, Large};
 use cases::names::Question;
 use compare::lent::Value;
 use compare::wire::{Call, Function, Replies, Requests};
+use second::names::{self, listed, stretch, FOUR};
 use second::text::TEXT_LIMIT;
-use second::{filler, first_fault, quick, Map, Refusal, TABLE_WORDS};
+use second::{filler, first_fault, quick, Kind, Map, Refusal, LIST_WORDS, TABLE_WORDS};
 use std::hint::black_box;
 
 /// All texts are timed so many times over: a machine may be busy for a while.
@@ -16,6 +17,9 @@ const SWEEPS: usize = 3;
 const TEXT: u32 = 1;
 const TABLE: u32 = 2;
 const OUTPUT: u32 = 3;
+const LIST: u32 = 4;
+const LISTED: u32 = 5;
+const NAME: u32 = 6;
 
 /// The figures of one text.
 struct Figures {
@@ -23,6 +27,8 @@ struct Figures {
     page: Figure,
     fill: Figure,
     name: Figure,
+    list: Figure,
+    find: Figure,
 }
 
 impl Figures {
@@ -32,6 +38,8 @@ impl Figures {
             page: self.page.least(other.page),
             fill: self.fill.least(other.fill),
             name: self.name.least(other.name),
+            list: self.list.least(other.list),
+            find: self.find.least(other.find),
         }
     }
 }
@@ -48,6 +56,8 @@ pub fn rows(bench: &mut Bench) -> Result<(), String> {
         figures.page.print(&format!("page: {name}"), bridge);
         figures.fill.print(&format!("fill: {name}"), bridge);
         figures.name.print(&format!("name: {name}"), bridge);
+        figures.list.print(&format!("list: {name}"), bridge);
+        figures.find.print(&format!("find: {name}"), bridge);
     }
     for (Large { name, .. }, figures) in large::texts().iter().zip(&least) {
         let pair = [("read", &figures.read), ("fill", &figures.fill)];
@@ -63,12 +73,15 @@ fn sweep(bench: &mut Bench) -> Result<Vec<Figures>, String> {
         lent.lend(TEXT, &large.text);
         lent.lend(TABLE, &[1u16; TABLE_WORDS]);
         lent.lend(OUTPUT, &[1u8; TEXT_LIMIT]);
+        lent.lend(LIST, &[1u32; LIST_WORDS]);
         exchange(&mut bench.bridge, lent)?;
         figures.push(Figures {
             read: read(bench, large)?,
             page: page(bench, large)?,
             fill: fill(bench, large)?,
             name: name(bench, large)?,
+            list: list(bench, large)?,
+            find: find(bench, large)?,
         });
     }
     Ok(figures)
@@ -115,6 +128,37 @@ fn name(bench: &mut Bench, large: &Large) -> Result<Figure, String> {
     };
     figure(bench, &calls, || {
         question.answer(black_box(&large.text)).packed()
+    })
+}
+
+/// The words must be the same too.
+fn list(bench: &mut Bench, large: &Large) -> Result<Figure, String> {
+    let mut words = vec![1; LIST_WORDS];
+    let figure = one_call(bench, large, Function::List, &[TEXT, LIST], || {
+        let listing = names::list(black_box(&large.text), black_box(&mut words));
+        names::answer(listing).packed()
+    })?;
+    same(bench, large, Function::List, LIST, &words)?;
+    Ok(figure)
+}
+
+/// Of the last function; in no list where the text is refused.
+fn find(bench: &mut Bench, large: &Large) -> Result<Figure, String> {
+    let kind = Kind::Function as u32;
+    let list = listed(&large.text).unwrap_or_default();
+    let last = list.chunks_exact(FOUR).rfind(|four| four[0] == kind);
+    let name = last.map_or(&b""[..], |four| stretch(&large.text, four));
+    let mut lent = Requests::default();
+    lent.lend(LISTED, &list);
+    lent.lend(NAME, name);
+    exchange(&mut bench.bridge, lent)?;
+    let calls = Calls {
+        name: large.name.to_string(),
+        function: Function::Find,
+        all: &[compare::find::call(kind, [TEXT, LISTED, NAME])],
+    };
+    figure(bench, &calls, || {
+        names::find(black_box(&large.text), &list, kind, black_box(name)) as u64
     })
 }
 

@@ -1,0 +1,9 @@
+pub mod Things
+pub mod Words
+pub mod Elements
+pub mod Fields
+pub mod Answers
+pub mod Agree
+pub mod Small
+pub mod Room
+pub mod Example
