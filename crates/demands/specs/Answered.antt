@@ -82,7 +82,7 @@ pub record NotFilled (t out : List ℕ) (number line : ℕ) : Type 0 where
   pub no-line : line ≡ noLine
   pub why : FilledTooLong file number ⊎ OutputTooShort file out number
 
--- "The filler gives 2 to 11 as the reader does, then 31, then 30; on refusal its output is untouched"
+-- "The filler gives 2 to 11 as the reader does, then 31, then 30, and on refusal its output is untouched"
 pub record FillingRefused (t out : List ℕ) (answer : Filling) (left : List ℕ) : Type 0 where
   pub number : ℕ
   pub line : ℕ
@@ -90,7 +90,7 @@ pub record FillingRefused (t out : List ℕ) (answer : Filling) (left : List ℕ
   pub told : answer ≡ Unfilled number line
   pub untouched : left ≡ out
 
--- filled: the filled text stands at the front, and "bytes past the filled text never change"
+-- filled: the filled text stands at the front, and "bytes past the filled text, never change"
 pub record TextFilled (t out : List ℕ) (answer : Filling) (left : List ℕ) : Type 0 where
   pub rules : RulesHold t
   pub file : List Field

@@ -1,4 +1,5 @@
 // A name's number, by the list of what a text names. Any bytes and any words will do.
+use file_listing::THING_SIZE;
 ghost use mathlib.Core.Path.{_≡_};
 ghost use mathlib.Core.Bool.{cond, _&&_};
 ghost use Prim.Native.Nat.{_+_, _*_, _<_, _≤_};
@@ -8,9 +9,7 @@ ghost use Rattle.paper.specs.Common.{same};
 ghost use Rattle.file_listing.specs.Things.{thingSize};
 ghost use Rattle.file_find.specs.Number.{kindIn, nameIn, numberOf};
 
-// In the list: so many words for each thing, the first of them its kind.
-const THING_SIZE: usize = 4;
-
+// In a thing, whose first word is its kind.
 const START_AT: usize = 2;
 
 const SIZE_AT: usize = 3;

@@ -21,12 +21,12 @@ use Rattle.file_fields.proofs.Valued.{inside-elements, inside-spaced}
 use Rattle.filled_lines.specs.Wrote.{Wrote}
 use Rattle.filled_lines.proofs.Writing.{left, over, Writing, begin, start, same, finish, room, fits, more}
 use Rattle.file_listing.specs.Things.{thing, elementThings, eachThing}
-use Rattle.file_listing.specs.Asked.{isSmall, AllSmall, Asked}
+use Rattle.file_listing.specs.Writable.{isSmall, AllSmall, Writable}
 use Rattle.file_listing.proofs.Things.{start-small}
 
 -- what is asked of the next words, of those that are left to be written
-pub next-asked : {whole rest old out : List ℕ} {at : ℕ} → Writing whole rest old out at → (x others : List ℕ) → rest ≡ x ++ others → Asked whole old
-    → Asked x (left out at)
+pub next-asked : {whole rest old out : List ℕ} {at : ℕ} → Writing whole rest old out at → (x others : List ℕ) → rest ≡ x ++ others → Writable whole old
+    → Writable x (left out at)
 next-asked {whole} {rest} w x others e a =
     let s : AllSmall (w .front ++ (x ++ others)) = rw (← e, ← w .joins) (a .small) in
     record { room = room w x others e; small = allOf-append-left isSmall x others (allOf-append-right isSmall (w .front) (x ++ others) s) }
@@ -49,7 +49,7 @@ first-start kind line from s = go (isEmpty s) (map unspaced (cut comma s))
 
 module _ (t list : List ℕ) (kind i : ℕ) (v s : List ℕ) (line from at : ℕ) (old : List ℕ) where
   pub elements-begin : line ≡ lineIn list i → from ≡ startIn list i → v ≡ valueIn t list i → s ≡ insideOf v → at ≡ firstElement s
-      → Asked (eachThing kind (fieldAt t list i)) old → ElementsWritten t list kind i s line from at old old 0
+      → Writable (eachThing kind (fieldAt t list i)) old → ElementsWritten t list kind i s line from at old old 0
   unfolding eachThing fieldAt
   elements-begin a b d e h asked =
       let q : eachThing kind (fieldAt t list i) ≡ elementsFrom kind line from s at =
@@ -89,13 +89,13 @@ module _ (t list : List ℕ) (kind i : ℕ) (s : List ℕ) (line from at : ℕ) 
             let b : from + 1 + at + (to - at) + 2 ≡ from + 1 + next = omega (arith, f .next-is, found-from s at r o to next z) in
             rw (left-found s at r o to next z k, a, b) refl
 
-        pub element-asked : Asked (eachThing kind (fieldAt t list i)) old → Asked (thing kind line (from + 1 + at) (to - at)) (left out end)
+        pub element-asked : Writable (eachThing kind (fieldAt t list i)) old → Writable (thing kind line (from + 1 + at) (to - at)) (left out end)
         element-asked a = next-asked w (thing kind line (from + 1 + at) (to - at)) (elementsFrom kind line from s next) element-next a
 
-        pub element-starts : Asked (eachThing kind (fieldAt t list i)) old → Fits w64 (from + 1)
+        pub element-starts : Writable (eachThing kind (fieldAt t list i)) old → Fits w64 (from + 1)
         element-starts a = omega (arith, start-small kind line (from + 1 + at) (to - at) (left out end) (element-asked a))
 
-        pub element-stands : Asked (eachThing kind (fieldAt t list i)) old → Fits w64 (from + 1 + at)
+        pub element-stands : Writable (eachThing kind (fieldAt t list i)) old → Fits w64 (from + 1 + at)
         element-stands a = omega (arith, start-small kind line (from + 1 + at) (to - at) (left out end) (element-asked a))
 
         module _ (ys : List ℕ) (b : ℕ) (v : Wrote (thing kind line (from + 1 + at) (to - at)) (left out end) ys b) where

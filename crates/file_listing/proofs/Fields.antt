@@ -11,7 +11,7 @@ use Rattle.file_fields.proofs.Between.{between-more, between-none}
 use Rattle.filled_lines.specs.Wrote.{Wrote}
 use Rattle.filled_lines.proofs.Writing.{left, over, Writing, begin, start, same, finish, fits, more}
 use Rattle.file_listing.specs.Things.{thingsIn, thingsOf}
-use Rattle.file_listing.specs.Asked.{Asked, behindIn}
+use Rattle.file_listing.specs.Writable.{Writable, behindIn}
 use Rattle.file_listing.proofs.Elements.{next-asked}
 
 -- the things of the fields before number i are there
@@ -19,7 +19,7 @@ abbrev pub ThingsWritten : List ℕ → List ℕ → ℕ → ℕ → List ℕ �
 ThingsWritten t list n i old out at = Writing (thingsOf (between t list 0 n)) (thingsOf (between t list i n)) old out at
 
 module _ (t list : List ℕ) (n : ℕ) (old : List ℕ) where
-  pub things-begin : Asked (thingsOf (between t list 0 n)) old → ThingsWritten t list n 0 old old 0
+  pub things-begin : Writable (thingsOf (between t list 0 n)) old → ThingsWritten t list n 0 old old 0
   things-begin a = begin (thingsOf (between t list 0 n)) (thingsOf (between t list 0 n)) old refl (a .room)
 
   module _ (i : ℕ) (out : List ℕ) (at : ℕ) (w : ThingsWritten t list n i old out at) where
@@ -45,7 +45,7 @@ module _ (t list : List ℕ) (n : ℕ) (old : List ℕ) where
       unfolding thingsOf
       field-next = rw (between-more t list i n h) refl
 
-      pub field-asked : Asked (thingsOf (between t list 0 n)) old → Asked (thingsIn (fieldAt t list i) (behindIn t list i n)) (left out at)
+      pub field-asked : Writable (thingsOf (between t list 0 n)) old → Writable (thingsIn (fieldAt t list i) (behindIn t list i n)) (left out at)
       field-asked a = next-asked w own (thingsOf (between t list (i + 1) n)) field-next a
 
       module _ (ys : List ℕ) (b : ℕ) (v : Wrote (thingsIn (fieldAt t list i) (behindIn t list i n)) (left out at) ys b) where

@@ -17,7 +17,7 @@ use Rattle.filled_lines.specs.Wrote.{Wrote}
 use Rattle.file_listing.specs.declared.Naming.{Naming}
 use Rattle.file_listing.specs.declared.Naming.the-variants.{One, Each, Entry, Nothing}
 use Rattle.file_listing.specs.Things.{thing, nameThing, eachThing, namingAt, thingsAs, thingsIn}
-use Rattle.file_listing.specs.Asked.{isSmall, AllSmall, Asked, behindIn}
+use Rattle.file_listing.specs.Writable.{isSmall, AllSmall, Writable, behindIn}
 
 -- ---- by the place
 
@@ -60,7 +60,7 @@ small-rest : (w : ℕ) (ws : List ℕ) → AllSmall (w ∷ ws) → AllSmall ws
 unfolding allOf
 small-rest w ws h = both-right (isSmall w) (allOf isSmall ws) h
 
-module _ (kind line start size : ℕ) (out : List ℕ) (asked : Asked (thing kind line start size) out) where
+module _ (kind line start size : ℕ) (out : List ℕ) (asked : Writable (thing kind line start size) out) where
   words : AllSmall (kind ∷ line ∷ start ∷ size ∷ [])
   unfolding thing
   words = asked .small
@@ -118,7 +118,7 @@ module _ (t list : List ℕ) (kind i j line start : ℕ) (v out : List ℕ)
   unfolding nameThing fieldAt
   name-is = rw (a, b, d) refl
 
-  pub name-asked : Asked (nameThing kind (fieldAt t list i) (fieldAt t list j)) out → Asked (thing kind line start (length v)) out
+  pub name-asked : Writable (nameThing kind (fieldAt t list i) (fieldAt t list j)) out → Writable (thing kind line start (length v)) out
   name-asked h = rw name-is at h
 
   pub name-put : (after : List ℕ) (r : ℕ) → Wrote (thing kind line start (length v)) out after r
@@ -132,7 +132,7 @@ module _ (t list : List ℕ) (i n : ℕ) (out : List ℕ) where
     behind-some : behindIn t list i n ≡ fieldAt t list (i + 1)
     behind-some = rw (between-more t list (i + 1) n h) refl
 
-    pub entry-asked : Asked (nameThing 5 (fieldAt t list i) (behindIn t list i n)) out → Asked (nameThing 5 (fieldAt t list i) (fieldAt t list (i + 1))) out
+    pub entry-asked : Writable (nameThing 5 (fieldAt t list i) (behindIn t list i n)) out → Writable (nameThing 5 (fieldAt t list i) (fieldAt t list (i + 1))) out
     entry-asked a = rw behind-some at a
 
     pub entry-put : (after : List ℕ) (r : ℕ) → Wrote (nameThing 5 (fieldAt t list i) (fieldAt t list (i + 1))) out after r
@@ -144,7 +144,7 @@ module _ (t list : List ℕ) (i n : ℕ) (out : List ℕ) where
     unfolding nameThing fieldAt
     nameless-is = rw (between-none t list (i + 1) n h, e) refl
 
-    pub nameless-asked : Asked (nameThing 5 (fieldAt t list i) (behindIn t list i n)) out → Asked (thing 5 line 0 0) out
+    pub nameless-asked : Writable (nameThing 5 (fieldAt t list i) (behindIn t list i n)) out → Writable (thing 5 line 0 0) out
     nameless-asked a = rw nameless-is at a
 
     pub nameless-put : (after : List ℕ) (r : ℕ) → Wrote (thing 5 line 0 0) out after r
@@ -159,21 +159,21 @@ module _ (t list : List ℕ) (i p : ℕ) (e : p ≡ placeIn list i) (r : Naming)
   named-as x h = rw (← e, ← q, h) refl
 
   module _ (kind : ℕ) where
-    pub one-asked : r ≡ One kind → Asked (thingsIn (fieldAt t list i) f) out → Asked (nameThing kind (fieldAt t list i) (fieldAt t list i)) out
+    pub one-asked : r ≡ One kind → Writable (thingsIn (fieldAt t list i) f) out → Writable (nameThing kind (fieldAt t list i) (fieldAt t list i)) out
     one-asked h a = rw (named-as (One kind) h) at a
 
     pub one-put : r ≡ One kind → (after : List ℕ) (k : ℕ) → Wrote (nameThing kind (fieldAt t list i) (fieldAt t list i)) out after k
         → Wrote (thingsIn (fieldAt t list i) f) out after k
     one-put h after k w = rw (named-as (One kind) h) w
 
-    pub each-asked : r ≡ Each kind → Asked (thingsIn (fieldAt t list i) f) out → Asked (eachThing kind (fieldAt t list i)) out
+    pub each-asked : r ≡ Each kind → Writable (thingsIn (fieldAt t list i) f) out → Writable (eachThing kind (fieldAt t list i)) out
     each-asked h a = rw (named-as (Each kind) h) at a
 
     pub each-put : r ≡ Each kind → (after : List ℕ) (k : ℕ) → Wrote (eachThing kind (fieldAt t list i)) out after k
         → Wrote (thingsIn (fieldAt t list i) f) out after k
     each-put h after k w = rw (named-as (Each kind) h) w
 
-  pub an-entry-asked : r ≡ Entry → Asked (thingsIn (fieldAt t list i) f) out → Asked (nameThing 5 (fieldAt t list i) f) out
+  pub an-entry-asked : r ≡ Entry → Writable (thingsIn (fieldAt t list i) f) out → Writable (nameThing 5 (fieldAt t list i) f) out
   an-entry-asked h a = rw (named-as Entry h) at a
 
   pub an-entry-put : r ≡ Entry → (after : List ℕ) (k : ℕ) → Wrote (nameThing 5 (fieldAt t list i) f) out after k

@@ -15,7 +15,7 @@ use Rattle.file_fields.proofs.Between.{between-more, between-none, value-short}
 use Rattle.file_listing.specs.declared.Naming.{Naming}
 use Rattle.file_listing.specs.declared.Naming.the-variants.{One, Each, Entry, Nothing}
 use Rattle.file_listing.specs.Things.{thingSize, thing, nameThing, elementThings, eachThing, namingAt, thingsAs, thingsIn, thingsOf, countAs, thingCount}
-use Rattle.file_listing.specs.Asked.{mostWords}
+use Rattle.file_listing.specs.Writable.{mostWords}
 
 -- what a field names, by the five tests of its place
 abbrev pub byTests : Bool → Bool → Bool → Bool → Bool → Naming

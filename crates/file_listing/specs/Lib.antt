@@ -1,3 +1,3 @@
 pub mod Things
 pub mod Answer
-pub mod Asked
+pub mod Writable

@@ -27,11 +27,11 @@ ghost use Rattle.file_names.specs.Naming.{Sound};
 ghost use Rattle.file_read.specs.Readable.{Readable};
 ghost use Rattle.filled_lines.specs.Wrote.{Wrote};
 ghost use Rattle.file_listing.specs.Things.{thingSize, thing, nameThing, eachThing, namingAt, thingsIn, thingsOf, thingCount};
-ghost use Rattle.file_listing.specs.Asked.{AllSmall, Asked, behindIn, mostWords};
+ghost use Rattle.file_listing.specs.Writable.{AllSmall, Writable, behindIn, mostWords};
 ghost use Rattle.file_listing.specs.Answer.{listingOf, listLeft, wordsListed, listAnswer, listLeaves};
 
 // So many words stand for a thing.
-const THING_SIZE: usize = 4;
+pub const THING_SIZE: usize = 4;
 
 // What a field names: its value is a name, each element of its list is one, it begins an entry, or it names nothing.
 pub enum Naming {
@@ -102,7 +102,7 @@ fn list_words(t: &[u8], list: &[usize], n: usize) -> usize
 }
 
 fn put_thing(kind: u32, line: usize, start: usize, size: usize, out: &mut [u32]) -> usize
-    requires { ⌜ Asked (thing kind line start size) (now out) ⌝ }
+    requires { ⌜ Writable (thing kind line start size) (now out) ⌝ }
     ensures { λ r. ⌜ Wrote (thing kind line start size) (now (out .entry)) (now (out .exit)) r ⌝ }
 {
     out[0] = kind;
@@ -115,7 +115,7 @@ fn put_thing(kind: u32, line: usize, start: usize, size: usize, out: &mut [u32])
 // A thing on the line of field i whose name is the value of field j.
 fn put_name(t: &[u8], list: &[usize], kind: u32, i: usize, j: usize, out: &mut [u32]) -> usize
     requires { ⌜ (fieldSize * (i + 1) ≤ length (now list)) × (fieldSize * (j + 1) ≤ length (now list)) ⌝ }
-    requires { ⌜ Asked (nameThing kind (fieldAt (now t) (now list) i) (fieldAt (now t) (now list) j)) (now out) ⌝ }
+    requires { ⌜ Writable (nameThing kind (fieldAt (now t) (now list) i) (fieldAt (now t) (now list) j)) (now out) ⌝ }
     ensures { λ r. ⌜ Wrote (nameThing kind (fieldAt (now (t .entry)) (now (list .entry)) i) (fieldAt (now (t .entry)) (now (list .entry)) j))
         (now (out .entry)) (now (out .exit)) r ⌝ }
 {
@@ -129,7 +129,7 @@ fn put_name(t: &[u8], list: &[usize], kind: u32, i: usize, j: usize, out: &mut [
 fn put_each(t: &[u8], list: &[usize], kind: u32, i: usize, out: &mut [u32]) -> usize
     requires { ⌜ fieldSize * (i + 1) ≤ length (now list) ⌝ }
     requires { ⌜ wellSpaced (fieldAt (now t) (now list) i) ≡ true ⌝ }
-    requires { ⌜ Asked (eachThing kind (fieldAt (now t) (now list) i)) (now out) ⌝ }
+    requires { ⌜ Writable (eachThing kind (fieldAt (now t) (now list) i)) (now out) ⌝ }
     ensures { λ r. ⌜ Wrote (eachThing kind (fieldAt (now (t .entry)) (now (list .entry)) i)) (now (out .entry)) (now (out .exit)) r ⌝ }
 {
     let s = inside(value_of(t, list, i));
@@ -151,7 +151,7 @@ fn put_each(t: &[u8], list: &[usize], kind: u32, i: usize, out: &mut [u32]) -> u
 // The entry that begins with field i, of n. Where no field stands behind it, it has no name.
 fn put_entry(t: &[u8], list: &[usize], i: usize, n: usize, out: &mut [u32]) -> usize
     requires { ⌜ (i < n) × (fieldSize * n ≤ length (now list)) ⌝ }
-    requires { ⌜ Asked (nameThing 5 (fieldAt (now t) (now list) i) (behindIn (now t) (now list) i n)) (now out) ⌝ }
+    requires { ⌜ Writable (nameThing 5 (fieldAt (now t) (now list) i) (behindIn (now t) (now list) i n)) (now out) ⌝ }
     ensures { λ r. ⌜ Wrote (nameThing 5 (fieldAt (now (t .entry)) (now (list .entry)) i) (behindIn (now (t .entry)) (now (list .entry)) i n))
         (now (out .entry)) (now (out .exit)) r ⌝ }
 {
@@ -165,7 +165,7 @@ fn put_entry(t: &[u8], list: &[usize], i: usize, n: usize, out: &mut [u32]) -> u
 fn put_field(t: &[u8], list: &[usize], i: usize, n: usize, out: &mut [u32]) -> usize
     requires { ⌜ (i < n) × (fieldSize * n ≤ length (now list)) ⌝ }
     requires { ⌜ wellSpaced (fieldAt (now t) (now list) i) ≡ true ⌝ }
-    requires { ⌜ Asked (thingsIn (fieldAt (now t) (now list) i) (behindIn (now t) (now list) i n)) (now out) ⌝ }
+    requires { ⌜ Writable (thingsIn (fieldAt (now t) (now list) i) (behindIn (now t) (now list) i n)) (now out) ⌝ }
     ensures { λ r. ⌜ Wrote (thingsIn (fieldAt (now (t .entry)) (now (list .entry)) i) (behindIn (now (t .entry)) (now (list .entry)) i n))
         (now (out .entry)) (now (out .exit)) r ⌝ }
 {
@@ -180,7 +180,7 @@ fn put_field(t: &[u8], list: &[usize], i: usize, n: usize, out: &mut [u32]) -> u
 // The whole list, one field at a time.
 fn put_things(t: &[u8], list: &[usize], n: usize, out: &mut [u32]) -> usize
     requires { ⌜ Sound (now t) (now list) n ⌝ }
-    requires { ⌜ Asked (thingsOf (between (now t) (now list) 0 n)) (now out) ⌝ }
+    requires { ⌜ Writable (thingsOf (between (now t) (now list) 0 n)) (now out) ⌝ }
     ensures { λ r. ⌜ Wrote (thingsOf (between (now (t .entry)) (now (list .entry)) 0 n)) (now (out .entry)) (now (out .exit)) r ⌝ }
 {
     let mut end: usize = 0;

@@ -12,11 +12,11 @@ use Rattle.paper.specs.Entries.{fieldsAt}
 use Rattle.paper.specs.Rules.{ruled}
 use Rattle.paper.specs.Lookup.{Stretch, namesOf, nameAmong, nameIn, VeryStretch}
 use Rattle.paper.specs.Promises.{textPage, fileOf, readingOf, lookupAnswer}
-use Rattle.laws_file.proofs.Kept.{no-line}
 use Rattle.file_fields.specs.Fields.{between}
 use Rattle.file_fields.specs.Listed.{foundIn}
 use Rattle.file_fields.specs.declared.Found.{Found}
 use Rattle.file_fields.specs.declared.Found.the-variants.{Listed, Refused}
+use Rattle.file_read.proofs.Finding.{file-refused, file-held, rules-fault, rules-hold}
 use Rattle.file_lookup.specs.declared.Place.{Place}
 use Rattle.file_lookup.specs.Place.{stretchIn, bytesIn, EndsWithBytes, InText}
 use Rattle.file_lookup.proofs.Placed.{no-name}
@@ -30,30 +30,21 @@ atFront t = stretchIn t (record { start = 0; end = 0 })
 
 module _ (fs : List Field) (r : Reading) (e : r ≡ readingOf (ruled fs)) (which : Map) (d : ℕ) where
   pub rules-refuse : (k m : ℕ) → r ≡ Unread k m → (t : List ℕ) → atFront t ≡ nameIn which d (ruled fs)
-  rules-refuse k m q t = go (ruled fs) (sym q ∙ e)
-    where
-      go : (o : Outcome) → Unread k m ≡ readingOf o → atFront t ≡ nameIn which d o
-      go (fields gs) h = absurd (let z : _≡_ {A = ℕ} 0 1 = cc in omega arith)
-      go (fault l n) h = no-name t
+  rules-refuse k m q t = rw (rules-fault fs r e k m q) (no-name t)
 
   pub rules-answer : r ≡ Accepted → (p : ℕ) → p ≡ namesOf which → (s : Stretch) → s ≡ nameAmong (fieldsAt p fs) d → s ≡ nameIn which d (ruled fs)
-  rules-answer q p place s a = go (ruled fs) refl (sym q ∙ e)
-    where
-      go : (o : Outcome) → ruled fs ≡ o → Accepted ≡ readingOf o → s ≡ nameIn which d o
-      go (fields gs) h k = a ∙ rw (place, no-line fs gs h .1) refl
-      go (fault l n) h k = absurd (let z : _≡_ {A = ℕ} 0 1 = cc in omega arith)
+  rules-answer q p place s a = a ∙ rw (place, rules-hold fs r e q) refl
 
 -- ---- the page
 
 module _ (t list : List ℕ) (f : Found) (e : foundIn t list f ≡ textPage t) (which : Map) (d : ℕ) where
   pub page-refuses : (k m : ℕ) → f ≡ Refused k m → atFront t ≡ lookupAnswer t which d
-  unfolding lookupAnswer fileOf
-  page-refuses k m q = no-name t ∙ rw (← e, q) refl
+  unfolding lookupAnswer
+  page-refuses k m q = no-name t ∙ rw (file-refused t list f e k m q) refl
 
-  module _ (n : ℕ) (q : f ≡ Listed n) where
-    pub page-answers : (s : Stretch) → s ≡ nameIn which d (ruled (between t list 0 n)) → s ≡ lookupAnswer t which d
-    unfolding lookupAnswer fileOf
-    page-answers s h = h ∙ rw (← e, q) refl
+  pub page-answers : (n : ℕ) → f ≡ Listed n → (s : Stretch) → s ≡ nameIn which d (ruled (between t list 0 n)) → s ≡ lookupAnswer t which d
+  unfolding lookupAnswer
+  page-answers n q s h = h ∙ rw (file-held t list f e n q) refl
 
 -- ---- where it lies
 

@@ -21,7 +21,8 @@ use Rattle.paper.specs.Verdict.{isCode, targetsOf, targetNumber, targetL
 use Rattle.paper.specs.Overlap.{entryOfPolicy, isUser, witnessUid, witnessLeft}
 use Rattle.paper.specs.Filled.{keyLine, bareLine, writtenLine, valueLine, contextText, itemText, accessText, entryText, filledText}
 use Rattle.paper.specs.Lookup.{front, stretchOf, nameAmong}
-use Rattle.paper.specs.Promises.{textPage, fileOf, readAnswer, readLeaves, writtenIn, fillAnswer, fillLeaves, accessFor, judgeEvent, judgeAnswer, reportRefusal, Reported, lookupAnswer, lookupNumbered}
+use Rattle.paper.specs.Promises.{textPage, fileOf, readAnswer, readLeaves, writtenIn, fillAnswer, fillLeaves, accessFor, judgeEvent, judgeAnswer}
+use Rattle.paper.specs.Promises.{reportRefusal, Reported, lookupAnswer, lookupNumbered}
 use Rattle.paper.specs.Program.{lastDigits, decimal, refusalLine, programWrites, programSize, programLeaves}
 
 unfoldable pub computing : Unit {0}

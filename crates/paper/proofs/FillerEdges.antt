@@ -42,7 +42,7 @@ lengths-at-the-edge :
 unfolding computing
 lengths-at-the-edge = refl
 
--- one byte short, exact, and longer: "bytes past the filled text never change"
+-- one byte short, exact, and longer: "bytes past the filled text, never change"
 outputs-at-the-edge :
     fillLeaves shortest (room 45) ∷ fillLeaves shortest (room 46) ∷ fillLeaves shortest (room 49) ∷ [] ≡ room 45 ∷ shortest ∷ (shortest ++ room 3) ∷ []
 unfolding computing

@@ -1,4 +1,4 @@
--- The program `fill` (document 01, "What is made": "a small program that reads a policy from standard input and writes the filled text, or the
+-- The program `fill` (document 01, "The pieces": "a small program that reads a policy from standard input and writes the filled text, or the
 -- refusal number and line as `4 12` and LF").
 use Prim.Native.Nat.{ℕ, zero, suc, _+_, _/_, _%_}
 use mathlib.Core.List.{List, [], _∷_, _++_}
@@ -20,7 +20,7 @@ unfoldable pub lastDigits : ℕ → ℕ → List ℕ
 lastDigits zero n = []
 lastDigits (suc most) n = cond (ltb n 10) (digit n ∷ []) (lastDigits most (n / 10) ++ (digit (n % 10) ∷ []))
 
--- a number in decimal: it has fewer digits than its successor is
+-- a number in decimal: n + 1 digits are never too few for n
 unfoldable pub decimal : ℕ → List ℕ
 decimal n = lastDigits (suc n) n
 
@@ -41,6 +41,6 @@ programWrites t = writes (textFilled (fileOf t)) (fillingOf textBytes (fileOf t)
 unfoldable pub programSize : List ℕ → ℕ
 programSize t = length (programWrites t)
 
--- what is left in the output from which they are written: these bytes, and nothing changed behind them
+-- what is left in the bytes lent for it: what the program writes, and nothing changed behind that
 unfoldable pub programLeaves : List ℕ → List ℕ → List ℕ
 programLeaves t out = programWrites t ++ drop (programSize t) out

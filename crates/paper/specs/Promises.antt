@@ -86,7 +86,7 @@ abbrev pub textFilled : Outcome → List ℕ
 textFilled (fields fs) = filledText fs
 textFilled (fault number line) = []
 
--- "bytes past the filled text never change"; "on refusal its output is untouched"
+-- "bytes past the filled text, never change"; "on refusal its output is untouched"
 abbrev pub outputLeft : List ℕ → List ℕ → Filling → List ℕ
 outputLeft filled out (Written size) = filled ++ drop size out
 outputLeft filled out (Unfilled number line) = out

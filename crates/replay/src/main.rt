@@ -367,19 +367,24 @@ fn read_list(file: &[u8], at: &mut usize, to: &mut [u32]) -> usize {
     n as usize
 }
 
-// Whether two lists hold the same words.
-fn same_lists(x: &[u32], y: &[u32]) -> bool {
-    if x.len() != y.len() {
-        return false;
+// The next word of a list; behind its end, what was lent.
+fn stored_long(file: &[u8], at: &mut usize, there: bool) -> u32 {
+    if there {
+        return long(file, at);
     }
+    UNTOUCHED_LONG
+}
+
+// Whether a list holds the stored words, and behind them what was lent.
+fn holds_list(file: &[u8], at: &mut usize, list: &[u32]) -> bool {
+    let n = long(file, at) as usize;
+    let mut same = n <= list.len();
     let mut i: usize = 0;
-    while i < x.len() {
-        if x[i] != y[i] {
-            return false;
-        }
+    while i < list.len() {
+        same = same & (list[i] == stored_long(file, at, i < n));
         i += 1;
     }
-    true
+    same
 }
 
 // The names of a text listed with so many words lent.
@@ -394,17 +399,13 @@ fn list(text: &[u8], words: &mut [u32], lent: usize) -> u64 {
 // A text, the answer to it, and the words that are written: those behind them stay as they were.
 fn replay_listing(file: &[u8], at: &mut usize, tally: Tally) -> Tally {
     let mut words = [UNTOUCHED_LONG; LIST_WORDS];
-    let mut stored = [UNTOUCHED_LONG; LIST_WORDS];
     let n = long(file, at) as usize;
     let text = stretch(file, at, n);
     let lent = long(file, at) as usize;
     let answer = list(text, &mut words, lent);
     let same = answer == wide(file, at);
-    read_list(file, at, &mut stored);
-    if same_lists(&words, &stored) {
-        return tally.with(same);
-    }
-    tally.with(false)
+    let held = holds_list(file, at, &words);
+    tally.with(same & held)
 }
 
 // The first so many words of a list, or as many as there are.

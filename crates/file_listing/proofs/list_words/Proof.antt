@@ -4,7 +4,7 @@ use Prim.Native.Nat.{_+_, _-_, _*_, _≤_}
 use lib.ListN.{length}
 use Rattle.file_fields.specs.Fields.{between}
 use Rattle.file_listing.specs.Things.{thingsOf}
-use Rattle.file_listing.specs.Asked.{mostWords}
+use Rattle.file_listing.specs.Writable.{mostWords}
 use Rattle.file_listing.proofs.Words.{words-more, words-all}
 use borrow.Author.Needs.{needs}
 use Rattle.file_listing.proofs.list_words.Statement.{statement}

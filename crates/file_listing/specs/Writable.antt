@@ -1,4 +1,4 @@
--- What is asked of the words that are written, and how many they can be.
+-- What may be written into the words lent, and how many words that can be.
 use Prim.Native.Nat.{ℕ, _+_, _*_, _≤_}
 use mathlib.Core.Path.{_≡_}
 use mathlib.Core.List.{List}
@@ -20,7 +20,7 @@ abbrev pub AllSmall : List ℕ → Type 0
 AllSmall words = allOf isSmall words ≡ true
 
 -- there is room for the words, and each is such a number
-pub record Asked (words out : List ℕ) : Type 0 where
+pub record Writable (words out : List ℕ) : Type 0 where
   pub room : length words ≤ length out
   pub small : AllSmall words
 
