@@ -1,67 +1,30 @@
 // The proved functions for C and Rust: include/dovetenon.h says what each answers, and crates/paper/specs/Answers.antt how
 // an answer is one number.
-pub mod class;
 pub mod map;
 
+use export_packed::class;
+use export_packed::packed_filling;
+use export_packed::packed_reading;
+use export_packed::packed_report;
+use export_packed::packed_verdict;
+use export_packed::whole;
 use file_listing::Listing;
-use judge::Ids;
-use paper::Filling;
+use judge_match::Ids;
 use paper::Map;
-use paper::Reading;
-use paper::Report;
-use paper::Verdict;
 ghost use mathlib.Core.Path.{_≡_};
-ghost use Prim.Native.Nat.{_≤_, _<_};
 ghost use Rattle.paper.specs.Table.{wellFormed, policyIn};
 ghost use Rattle.paper.specs.Promises.{textPage, readingOf, readAnswer, readLeaves, fillAnswer, fillLeaves, judgeEvent, judgeAnswer};
 ghost use Rattle.paper.specs.Promises.{lookupAnswer, lookupNumbered};
-ghost use Rattle.paper.specs.Answers.{clashRest, packed, readingPacked, fillingPacked, verdictPacked, reportPacked, namePacked, ReportFits};
+ghost use Rattle.paper.specs.Answers.{readingPacked, fillingPacked, verdictPacked, namePacked};
 ghost use Rattle.file_listing.specs.Answer.{listAnswer, listLeaves, listingPacked};
 ghost use Rattle.file_find.specs.Number.{numberOf};
 ghost use Rattle.export.specs.Told.{ReportedAs};
-
-// Where the class of an answer begins, and the rest: bits 16 and 32.
-const CLASS: u32 = 65536;
-
-const REST: u64 = 4294967296;
-
-// Where the higher entry of a clash begins, the depth and the uid: bits 8, 16 and 24 of the rest.
-const HIGHER: u32 = 256;
-
-const DEPTH: u32 = 65536;
-
-const UID: u32 = 16777216;
-
-// The low half of an answer.
-fn half(class: u16, value: u16) -> u32
-    ensures { λ r. ⌜ r ≡ packed (record { class = class; value = value; rest = 0 }) ⌝ }
-{
-    (value as u32) + (class as u32) * CLASS
-}
-
-// An answer: its class, a value, and whatever else it tells.
-fn whole(class: u16, value: u16, rest: u32) -> u64
-    ensures { λ r. ⌜ r ≡ packed (record { class = class; value = value; rest = rest }) ⌝ }
-{
-    (half(class, value) as u64) + (rest as u64) * REST
-}
 
 #[no_mangle]
 pub extern "C" fn dovetenon_well_formed(table: &[u16]) -> bool
     ensures { λ r. ⌜ r ≡ wellFormed (now (table .entry)) ⌝ }
 {
-    table::well_formed(table)
-}
-
-fn packed_verdict(verdict: Verdict) -> u32
-    ensures { λ r. ⌜ r ≡ verdictPacked verdict ⌝ }
-{
-    match verdict {
-        Verdict::Unjudged { number } => half(class::REFUSED, number),
-        Verdict::Violation { number } => half(class::VIOLATION, number),
-        Verdict::Inside => half(class::INSIDE, 0),
-        Verdict::Granted { entry } => half(class::GRANTED, entry),
-    }
+    table_test::well_formed(table)
 }
 
 #[no_mangle]
@@ -112,45 +75,11 @@ pub extern "C" fn dovetenon_judge_known(
     packed_verdict(judge::judge_known(table, operation, target, stack, ids, allocation, allocated))
 }
 
-// What a clash tells besides.
-fn clash_rest(lower: u16, higher: u16, depth: u16, uid: u32) -> u32
-    requires { ⌜ (lower < 256) × (higher < 256) × (depth < 256) × (uid ≤ 1) ⌝ }
-    ensures { λ r. ⌜ r ≡ clashRest lower higher depth uid ⌝ }
-{
-    (lower as u32) + (higher as u32) * HIGHER + (depth as u32) * DEPTH + uid * UID
-}
-
-fn packed_report(report: Report) -> u64
-    requires { ⌜ ReportFits report ⌝ }
-    ensures { λ r. ⌜ r ≡ reportPacked report ⌝ }
-{
-    match report {
-        Report::Unreported { number } => whole(class::REFUSED, number, 0),
-        Report::Clash {
-            lower,
-            higher,
-            depth,
-            uid,
-            gid: _,
-        } => whole(class::CLASH, 0, clash_rest(lower, higher, depth, uid)),
-        Report::Clear => whole(class::CLEAR, 0, 0),
-    }
-}
-
 #[no_mangle]
 pub extern "C" fn dovetenon_overlap(table: &[u16], witness: &mut [u16]) -> u64
     ensures { λ r. ⌜ ReportedAs (now (table .entry)) (now (witness .entry)) (now (witness .exit)) r ⌝ }
 {
     packed_report(overlap::overlap(table, witness))
-}
-
-fn packed_reading(reading: Reading) -> u64
-    ensures { λ r. ⌜ r ≡ readingPacked reading ⌝ }
-{
-    match reading {
-        Reading::Unread { number, line } => whole(class::REFUSED, number, line),
-        Reading::Accepted => whole(class::ACCEPTED, 0, 0),
-    }
 }
 
 #[no_mangle]
@@ -166,15 +95,6 @@ pub extern "C" fn dovetenon_read(text: &[u8], table: &mut [u16]) -> u64
     ensures { λ r. ⌜ now (table .exit) ≡ readLeaves (now (text .entry)) (now (table .entry)) ⌝ }
 {
     packed_reading(file_read::read(text, table))
-}
-
-fn packed_filling(filling: Filling) -> u64
-    ensures { λ r. ⌜ r ≡ fillingPacked filling ⌝ }
-{
-    match filling {
-        Filling::Unfilled { number, line } => whole(class::REFUSED, number, line),
-        Filling::Written { size } => whole(class::WRITTEN, 0, size),
-    }
 }
 
 #[no_mangle]

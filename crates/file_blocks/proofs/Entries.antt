@@ -2,13 +2,14 @@
 use mathlib.Core.Path.{_≡_, refl, sym, ap, _∙_}
 use mathlib.Core.Bool.{Bool, true, false, cond}
 use mathlib.Core.List.{List, [], _∷_, _++_, map, append-nil, append-assoc}
-use Prim.Native.Nat.{ℕ, _-_, _*_, _<_, _≤_}
+use Prim.Native.Nat.{ℕ, _+_, _-_, _*_, _<_, _≤_}
 use native.Mathlib.Omega.{arith}
 use lib.ListN.{length, take, drop, set, replicate, length-append, length-map, length-replicate}
+use borrow.Author.Tests.{leb-false, le-leb, lt-leb}
 use borrow.Rule.Slice.PartMut.{putMid}
 use Rattle.paper.specs.Common.{is, numberIn}
-use Rattle.paper.specs.Limits.{mostDomains, mostMembers, mostElements}
-use Rattle.paper.specs.Lists.{elementsIn, elements}
+use Rattle.paper.specs.Limits.{mostDomains, mostElements}
+use Rattle.paper.specs.Lists.{elements}
 use Rattle.paper.specs.Listing.{objectName, subjectName, subjectMembers, subjectOfEntry, executionContext, canCall, canReturn, canRead, canWrite}
 use Rattle.paper.specs.Listing.{callContextIn, objectsIn, objectContextIn}
 use Rattle.paper.specs.Page.{Field}
@@ -16,18 +17,21 @@ use Rattle.paper.specs.Entries.{valueAt, itemsOf}
 use Rattle.paper.specs.Rules.{descriptorsOf, repeats, domainsAt, identifiersAt}
 use Rattle.paper.specs.Policy.{contextOf, grantOf, descriptorOf, accessOf, entryOf}
 use Rattle.paper.specs.Table.{grantSize, setSize, entrySize, descriptorSize, padded, contextWords, grantWords, entryWords, descriptorWords}
+use Rattle.laws.proofs.Tests.{neither-left}
 use Rattle.laws.proofs.Places.{drop-zeros}
 use Rattle.laws.proofs.Stretches.{length-padded}
 use Rattle.laws_table.proofs.Grants.{length-grant}
-use Rattle.file_fields.specs.Fields.{fieldSize}
-use Rattle.file_fields.specs.Values.{insideOf}
-use Rattle.file_fields.proofs.Valued.{inside-elements}
+use Rattle.file_fields.specs.Fields.{fieldSize, between, nextAt, valueIn}
+use Rattle.file_fields.specs.Places.{IsAccess, IsContext}
+use Rattle.file_fields.proofs.Places.{is-execution-context, is-object-context}
 use Rattle.file_index.specs.Buckets.{numbersIn}
 use Rattle.file_index.specs.Maps.{Mapped}
-use Rattle.file_blocks.specs.Written.{putFrom, contextBy, contextAt, countsBy, withNames, grantBy}
+use Rattle.file_words.specs.Words.{numbersOf, wordsIn, Worded}
+use Rattle.file_blocks.specs.Written.{putFrom, contextIn, countsBy, everyIn, withWords, grantIn, grantBy}
 use Rattle.file_blocks.proofs.Behind.{take-zeros, zero-behind, put-behind, words-behind, one-zero-more}
-use Rattle.file_blocks.proofs.Contexts.{length-context, known-number, context-is}
+use Rattle.file_blocks.proofs.Contexts.{length-context, context-is}
 use Rattle.file_blocks.proofs.Granted.{grant-is}
+use Rattle.file_blocks.proofs.Placed.{pattern-few, context-in, calls-in, returns-in, objects-in}
 
 -- ---- a grant
 
@@ -41,32 +45,39 @@ module _ (out : List ℕ) (z : out ≡ replicate grantSize 0) where
   pub room-for-set : 1 ≤ length out
   room-for-set = omega (arith, grant-long)
 
-  module _ (number : List ℕ → ℕ) (n : ℕ) (v : List ℕ) (a : Bool) (p : a ≡ is "all" v) where
-    pub every-written : a ≡ true → set out 0 1 ≡ grantBy number n v
-    unfolding grantBy
-    every-written h = rw (z, ← p, h) refl
+  module _ (t list words starts : List ℕ) (place from to n i : ℕ) (a : Bool) (q : i ≡ nextAt list place from (to - from)) (p : a ≡ everyIn t list i to) where
+    pub every-written : a ≡ true → set out 0 1 ≡ grantIn t list words starts place from to n
+    unfolding grantIn
+    every-written h = rw (← q, z, ← p, h) refl
 
-    pub set-written : (s ys : List ℕ) → a ≡ false → s ≡ insideOf v → ys ≡ withNames number n (take (length out - 1) (drop 1 out)) (elementsIn s) → putMid 1 (length out - 1) out ys ≡ grantBy number n v
-    unfolding grantBy
+    pub set-written : (s ys : List ℕ) → a ≡ false → s ≡ wordsIn words starts i → ys ≡ withWords n (take (length out - 1) (drop 1 out)) s
+        → putMid 1 (length out - 1) out ys ≡ grantIn t list words starts place from to n
+    unfolding grantIn
     set-written s ys h es ey =
-        let w : ys ≡ withNames number n (replicate setSize 0) (elements v) = ey ∙ rw (z, es, inside-elements v) refl in
-        rw (z, ← p, h, w) (ap (λ (l : List ℕ). 0 ∷ l) (append-nil (withNames number n (replicate setSize 0) (elements v))))
+        let w : ys ≡ withWords n (replicate setSize 0) (wordsIn words starts i) = ey ∙ rw (z, es) refl in
+        rw (← q, z, ← p, h, w) (ap (λ (l : List ℕ). 0 ∷ l) (append-nil (withWords n (replicate setSize 0) (wordsIn words starts i))))
 
--- by the names of an index
-module _ (t ix : List ℕ) (n limit : ℕ) (names : List (List ℕ)) (m : Mapped t ix n limit names) where
-  by-names : numbersIn t ix n ≡ numberIn names
-  by-names = known-number (numbersIn t ix n) names (m .index .knows)
+-- whether a field grants every domain
+module _ (t list : List ℕ) (i to : ℕ) where
+  pub every-omitted : to ≤ i → true ≡ everyIn t list i to
+  unfolding everyIn
+  every-omitted h = rw (le-leb to i h) refl
 
-  module _ (few : limit ≤ mostDomains) (apart : repeats [] names ≡ false) where
-    grant-known : (v : List ℕ) → grantBy (numbersIn t ix n) n v ≡ grantWords (grantOf names v)
-    grant-known v = rw by-names (grant-is names n (m .index .count) (omega (arith, m .few)) apart v)
+  pub every-told : (v : List ℕ) (a : Bool) → i < to → v ≡ valueIn t list i → a ≡ is "all" v → a ≡ everyIn t list i to
+  unfolding everyIn
+  every-told v a h q e = rw (lt-leb to i h, ← q) e
 
-    length-known : (v : List ℕ) → length (grantBy (numbersIn t ix n) n v) ≡ grantSize
-    length-known v = ap length (grant-known v) ∙ length-grant (grantOf names v)
+  pub words-stand : (a : Bool) (long : ℕ) → a ≡ everyIn t list i to → a ≡ false → to < long → i + 1 < long
+  unfolding everyIn
+  words-stand a long e h l = omega (arith, leb-false to i (neither-left _ _ (sym e ∙ h)))
 
 -- the fields of a part of the file stand in the list too
 pub fields-within : (n to long : ℕ) → fieldSize * n ≤ long → to ≤ n → fieldSize * to ≤ long
 fields-within n to long h l = omega arith
+
+-- and where their words start
+pub starts-within : (n to long : ℕ) → to ≤ n → n < long → to < long
+starts-within n to long l h = omega arith
 
 -- ---- the context, in front of the rest
 
@@ -87,21 +98,14 @@ front-written : (size : ℕ) (xs out ys : List ℕ) → out ≡ replicate size 0
 unfolding padded
 front-written size xs out ys z l e q = rw (q, z, drop-zeros size 20, e) refl
 
--- ---- an entry
+-- ---- the parts of an entry
 
-module _ (number : List ℕ → ℕ) (p uid gid : List ℕ) (few : length (elements p) ≤ mostElements) (out ys : List ℕ) (z : out ≡ replicate entrySize 0) (e : ys ≡ contextBy number p uid gid) where
-  -- its context
-  abbrev context : List ℕ
-  context = contextBy number p uid gid
-
-  context-long : length context ≡ 20
-  context-long = length-context number p uid gid few
-
+module _ (context : List ℕ) (context-long : length context ≡ 20) (out ys : List ℕ) (z : out ≡ replicate entrySize 0) (e : ys ≡ context) where
   after-context : ys ++ drop 20 out ≡ padded entrySize context
   after-context = front-written entrySize context out ys z (omega arith) context-long e
 
-  pub entry-stays-long : length (ys ++ drop 20 out) ≡ entrySize
-  entry-stays-long = rw after-context (length-padded entrySize context (omega (arith, context-long)))
+  stays-long : length (ys ++ drop 20 out) ≡ entrySize
+  stays-long = rw after-context (length-padded entrySize context (omega (arith, context-long)))
 
   module _ (a b c : ℕ) (counted : List ℕ) (f : counted ≡ putFrom 20 (a ∷ b ∷ c ∷ []) (ys ++ drop 20 out)) where
     -- with its subject, its counts and the spare word
@@ -118,11 +122,11 @@ module _ (number : List ℕ → ℕ) (p uid gid : List ℕ) (few : length (eleme
         ∙ words-behind entrySize context (a ∷ b ∷ c ∷ []) (omega (arith, context-long))
         ∙ one-zero-more entrySize (context ++ (a ∷ b ∷ c ∷ [])) (rw length-append (omega (arith, context-long))))
 
-    pub calls-zero : take 9 (drop 24 counted) ≡ replicate 9 0
-    calls-zero = rw after-counts (zero-behind entrySize 24 9 principal principal-long (omega arith))
+    calls-part : take 9 (drop 24 counted) ≡ replicate 9 0
+    calls-part = rw after-counts (zero-behind entrySize 24 9 principal principal-long (omega arith))
 
-    pub calls-room : 33 ≤ length counted
-    calls-room = rw (after-counts, length-padded entrySize principal (omega (arith, principal-long))) (omega arith)
+    calls-end : 33 ≤ length counted
+    calls-end = rw (after-counts, length-padded entrySize principal (omega (arith, principal-long))) (omega arith)
 
     module _ (calls : List ℕ) (lc : length calls ≡ 9) where
       after-calls : putMid 24 9 counted calls ≡ padded entrySize (principal ++ calls)
@@ -152,71 +156,102 @@ access-counted file access fs = go (is "all" (valueAt access fs))
 parts-joined : (xs calls returns : List ℕ) (a b c : ℕ) → xs ++ (a ∷ b ∷ c ∷ []) ++ (0 ∷ []) ++ calls ++ returns ≡ xs ++ (a ∷ b ∷ c ∷ 0 ∷ (calls ++ returns))
 parts-joined xs calls returns a b c = rw (append-assoc, append-assoc, append-assoc) refl
 
-module _ (t six fix : List ℕ) (subjects functions : ℕ) (file fs : List Field) (ms : Mapped t six subjects mostDomains (domainsAt subjectName file))
-    (apart : repeats [] (domainsAt subjectName file) ≡ false)
-    (mf : Mapped t fix functions mostMembers (identifiersAt subjectMembers file)) (few : length (elements (valueAt (callContextIn executionContext) fs)) ≤ mostElements)
-    (out ys : List ℕ) (z : out ≡ replicate entrySize 0)
-    (e : ys ≡ contextAt (numbersIn t fix functions) executionContext fs)
-    (counted : List ℕ) (f : counted ≡ putFrom 20 (countsBy (numbersIn t six subjects) fs) (ys ++ drop 20 out))
-    (calls : List ℕ) (g : calls ≡ grantBy (numbersIn t six subjects) subjects (valueAt canCall fs)) where
-  grant-long-here : (v gs : List ℕ) → gs ≡ grantBy (numbersIn t six subjects) subjects v → length gs ≡ 9
-  grant-long-here v gs q = rw q (length-known t six subjects mostDomains (domainsAt subjectName file) ms (omega arith) apart v)
+-- the context and the grants by the words of a file of n fields
+module _ (t list words starts : List ℕ) (n from to : ℕ) (within : to ≤ n) (worded : Worded (numbersOf (between t list 0 n)) t list n words starts) where
+  -- the file, and the fields of the entry or of the item
+  abbrev file : List Field
+  file = between t list 0 n
 
-  pub returns-zero : take 9 (drop 33 (putMid 24 9 counted calls)) ≡ replicate 9 0
-  returns-zero = returns-part _ _ _ _ few out ys z e _ _ _ counted f calls (grant-long-here _ calls g)
+  abbrev fs : List Field
+  fs = between t list from to
 
-  pub returns-room : 42 ≤ length (putMid 24 9 counted calls)
-  returns-room = returns-end _ _ _ _ few out ys z e _ _ _ counted f calls (grant-long-here _ calls g)
+  length-context-in : (place : ℕ) → IsContext place → length (elements (valueAt (callContextIn place) fs)) ≤ mostElements
+      → length (contextIn t list words starts place from to) ≡ 20
+  unfolding contextIn
+  length-context-in place which few = length-context _ _ _ (pattern-few t list words starts n from to within worded place which few)
 
-  pub entry-written : (returns : List ℕ) → returns ≡ grantBy (numbersIn t six subjects) subjects (valueAt canReturn fs) → putMid 33 9 (putMid 24 9 counted calls) returns ≡ entryWords (entryOf file fs)
-  unfolding entryWords entryOf
-  entry-written returns h =
-      let q : calls ≡ grantWords (grantOf (domainsAt subjectName file) (valueAt canCall fs)) = g ∙ grant-known t six subjects mostDomains _ ms (omega arith) apart (valueAt canCall fs) in
-      let r : returns ≡ grantWords (grantOf (domainsAt subjectName file) (valueAt canReturn fs)) = h ∙ grant-known t six subjects mostDomains _ ms (omega arith) apart (valueAt canReturn fs) in
-      after-returns _ _ _ _ few out ys z e _ _ _ counted f calls (grant-long-here _ calls g) returns (grant-long-here _ returns h)
-      ∙ ap (padded entrySize) (parts-joined (contextAt (numbersIn t fix functions) executionContext fs) calls returns _ _ _
-      ∙ rw (
-        context-is (numbersIn t fix functions) (identifiersAt subjectMembers file) (mf .index .knows) executionContext fs,
-        ms .index .knows
-            (valueAt subjectOfEntry fs),
-        access-counted file canRead fs,
-        access-counted file canWrite fs,
-        q,
-        r,
-      ) refl)
+  context-known : (place : ℕ) → IsContext place → contextIn t list words starts place from to ≡ contextWords (contextOf (identifiersAt subjectMembers file) place fs)
+  context-known place which = context-in t list words starts n from to within worded place which ∙ context-is (identifiersAt subjectMembers file) place fs
 
--- ---- a descriptor
+  -- ---- an entry
 
-module _ (t oix fix : List ℕ) (objects functions access : ℕ) (file fs : List Field)
-    (mo : Mapped t oix objects mostDomains (domainsAt objectName file)) (apart : repeats [] (domainsAt objectName file) ≡ false)
-    (mf : Mapped t fix functions mostMembers (identifiersAt subjectMembers file)) (few : length (elements (valueAt (callContextIn (objectContextIn access)) fs)) ≤ mostElements)
-    (out ys : List ℕ) (z : out ≡ replicate descriptorSize 0)
-    (e : ys ≡ contextAt (numbersIn t fix functions) (objectContextIn access) fs) where
-  -- its context
-  abbrev object-context : List ℕ
-  object-context = contextAt (numbersIn t fix functions) (objectContextIn access) fs
+  module _ (few : length (elements (valueAt (callContextIn executionContext) fs)) ≤ mostElements) (out ys : List ℕ) (z : out ≡ replicate entrySize 0)
+      (e : ys ≡ contextIn t list words starts executionContext from to) where
+    long : length (contextIn t list words starts executionContext from to) ≡ 20
+    long = length-context-in executionContext is-execution-context few
 
-  object-context-long : length object-context ≡ 20
-  object-context-long = length-context _ _ _ _ few
+    pub entry-stays-long : length (ys ++ drop 20 out) ≡ entrySize
+    entry-stays-long = stays-long _ long out ys z e
 
-  after-object-context : ys ++ drop 20 out ≡ padded descriptorSize object-context
-  after-object-context = front-written descriptorSize object-context out ys z (omega arith) object-context-long e
+    module _ (six : List ℕ) (subjects : ℕ) (counted : List ℕ) (f : counted ≡ putFrom 20 (countsBy (numbersIn t six subjects) fs) (ys ++ drop 20 out)) where
+      pub calls-room : 33 ≤ length counted
+      calls-room = calls-end _ long out ys z e _ _ _ counted f
 
-  pub objects-zero : take 9 (drop 20 (ys ++ drop 20 out)) ≡ replicate 9 0
-  objects-zero = rw after-object-context (zero-behind descriptorSize 20 9 object-context object-context-long (omega arith))
+      pub calls-zero : take 9 (drop 24 counted) ≡ replicate 9 0
+      calls-zero = calls-part _ long out ys z e _ _ _ counted f
 
-  pub objects-room : 29 ≤ length (ys ++ drop 20 out)
-  objects-room = rw (after-object-context, length-padded descriptorSize object-context (omega (arith, object-context-long))) (omega arith)
+      module _ (ms : Mapped t six subjects mostDomains (domainsAt subjectName file)) (apart : repeats [] (domainsAt subjectName file) ≡ false)
+          (calls : List ℕ) (g : calls ≡ grantIn t list words starts canCall from to subjects) where
+        granted : (v : List ℕ) → grantBy (numberIn (domainsAt subjectName file)) subjects v ≡ grantWords (grantOf (domainsAt subjectName file) v)
+        granted v = grant-is (domainsAt subjectName file) subjects (ms .index .count) (ms .few) apart v
 
-  pub descriptor-written : (granted : List ℕ) → granted ≡ grantBy (numbersIn t oix objects) objects (valueAt (objectsIn access) fs)
-      → putMid 20 9 (ys ++ drop 20 out) granted ≡ descriptorWords (descriptorOf file access fs)
-  unfolding descriptorWords descriptorOf
-  descriptor-written granted g =
-      let l : length granted ≡ 9 = rw g (length-known t oix objects mostDomains (domainsAt objectName file) mo (omega arith) apart (valueAt (objectsIn access) fs)) in
-      let q : granted ≡ grantWords (grantOf (domainsAt objectName file) (valueAt (objectsIn access) fs)) = g ∙ grant-known t oix objects mostDomains
-      _ mo (omega arith) apart (valueAt (objectsIn access) fs) in
-      let o : object-context ≡ contextWords (contextOf (identifiersAt subjectMembers file) (objectContextIn access) fs) = context-is
-      (numbersIn t fix functions) (identifiersAt subjectMembers file) (mf .index .knows) (objectContextIn access) fs in
-      let w : putMid 20 9 (ys ++ drop 20 out) granted ≡ padded descriptorSize (object-context ++ granted) = rw after-object-context
-      (put-behind descriptorSize 20 9 object-context object-context-long (omega arith) granted l) in
-      w ∙ rw (o, q) refl
+        calls-known : calls ≡ grantWords (grantOf (domainsAt subjectName file) (valueAt canCall fs))
+        calls-known = g ∙ calls-in t list words starts n from to within worded subjects ∙ granted (valueAt canCall fs)
+
+        calls-nine : length calls ≡ 9
+        calls-nine = ap length calls-known ∙ length-grant _
+
+        pub returns-room : 42 ≤ length (putMid 24 9 counted calls)
+        returns-room = returns-end _ long out ys z e _ _ _ counted f calls calls-nine
+
+        pub returns-zero : take 9 (drop 33 (putMid 24 9 counted calls)) ≡ replicate 9 0
+        returns-zero = returns-part _ long out ys z e _ _ _ counted f calls calls-nine
+
+        pub entry-written : (returns : List ℕ) → returns ≡ grantIn t list words starts canReturn from to subjects
+            → putMid 33 9 (putMid 24 9 counted calls) returns ≡ entryWords (entryOf file fs)
+        unfolding entryWords entryOf
+        entry-written returns h =
+            let r : returns ≡ grantWords (grantOf (domainsAt subjectName file) (valueAt canReturn fs)) =
+            h ∙ returns-in t list words starts n from to within worded subjects ∙ granted (valueAt canReturn fs) in
+            after-returns _ long out ys z e _ _ _ counted f calls calls-nine returns (ap length r ∙ length-grant _)
+            ∙ ap (padded entrySize) (parts-joined (contextIn t list words starts executionContext from to) calls returns _ _ _
+            ∙ rw (
+              context-known executionContext is-execution-context,
+              ms .index .knows (valueAt subjectOfEntry fs),
+              access-counted file canRead fs,
+              access-counted file canWrite fs,
+              calls-known,
+              r,
+            ) refl)
+
+  -- ---- a descriptor
+
+  module _ (access : ℕ) (which : IsAccess access) (few : length (elements (valueAt (callContextIn (objectContextIn access)) fs)) ≤ mostElements)
+      (out ys : List ℕ) (z : out ≡ replicate descriptorSize 0) (e : ys ≡ contextIn t list words starts (objectContextIn access) from to) where
+    -- its context
+    abbrev object-context : List ℕ
+    object-context = contextIn t list words starts (objectContextIn access) from to
+
+    object-context-long : length object-context ≡ 20
+    object-context-long = length-context-in (objectContextIn access) (is-object-context access which) few
+
+    after-object-context : ys ++ drop 20 out ≡ padded descriptorSize object-context
+    after-object-context = front-written descriptorSize object-context out ys z (omega arith) object-context-long e
+
+    pub objects-zero : take 9 (drop 20 (ys ++ drop 20 out)) ≡ replicate 9 0
+    objects-zero = rw after-object-context (zero-behind descriptorSize 20 9 object-context object-context-long (omega arith))
+
+    pub objects-room : 29 ≤ length (ys ++ drop 20 out)
+    objects-room = rw (after-object-context, length-padded descriptorSize object-context (omega (arith, object-context-long))) (omega arith)
+
+    pub descriptor-written : (objects : ℕ) → objects ≡ length (domainsAt objectName file) → objects ≤ mostDomains → repeats [] (domainsAt objectName file) ≡ false
+        → (granted : List ℕ) → granted ≡ grantIn t list words starts (objectsIn access) from to objects
+        → putMid 20 9 (ys ++ drop 20 out) granted ≡ descriptorWords (descriptorOf file access fs)
+    unfolding descriptorWords descriptorOf
+    descriptor-written objects count few apart granted g =
+        let q : granted ≡ grantWords (grantOf (domainsAt objectName file) (valueAt (objectsIn access) fs)) =
+        g ∙ objects-in t list words starts n from to within worded access which objects
+        ∙ grant-is (domainsAt objectName file) objects count few apart (valueAt (objectsIn access) fs) in
+        let w : putMid 20 9 (ys ++ drop 20 out) granted ≡ padded descriptorSize (object-context ++ granted) =
+        rw after-object-context (put-behind descriptorSize 20 9 object-context object-context-long (omega arith) granted (ap length q ∙ length-grant _)) in
+        w ∙ rw (context-known (objectContextIn access) (is-object-context access which), q) refl

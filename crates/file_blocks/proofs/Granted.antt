@@ -24,8 +24,9 @@ use Rattle.laws.proofs.Counting.{length-map-counted, getD-counted}
 use Rattle.laws.proofs.Stretches.{Stands}
 use Rattle.laws.proofs.Sets.{contains-after-insert}
 use Rattle.file_index.proofs.Names.{same-sym}
+use Rattle.file_words.specs.Words.{wordBy}
 use Rattle.laws_table.proofs.Grants.{length-grant, grant-stands}
-use Rattle.file_blocks.specs.Written.{withName, withNames, grantBy}
+use Rattle.file_blocks.specs.Written.{withWord, withWords, grantBy}
 
 -- ---- names that do not repeat are numbered by their places
 
@@ -64,9 +65,9 @@ module _ (names : List (List ℕ)) (apart : repeats [] names ≡ false) (e : ℕ
       rw p (same-refl s))
       (λ h. let p : getD names e [] ≡ s = same-equal _ _ h in eq-eqb _ _ (rw p at (own-number [] names apart e l .own)))
 
-  -- one of the names of a list has number e if name e stands in the list
-  any-named : (xs : List (List ℕ)) → anyOf (λ s. eqb (numberIn names s) e) xs ≡ among (getD names e []) xs
-  unfolding among anyOf
+  -- one of the words of a list is e if name e stands in the list
+  any-named : (xs : List (List ℕ)) → anyOf (λ w. eqb w e) (map (wordBy false (numberIn names)) xs) ≡ among (getD names e []) xs
+  unfolding among anyOf wordBy
   any-named [] = refl
   any-named (x ∷ xs) = rw (number-is x, any-named xs)
 
@@ -119,31 +120,30 @@ either-turned true true c = refl
 either-turned true false c = refl
 either-turned false b c = refl
 
-module _ (number : List ℕ → ℕ) (n : ℕ) (few : n ≤ mostDomains) where
-  name-more : (domains s : List ℕ) → Among n domains → Among n (withName number n domains s)
-  unfolding withName
-  name-more domains s a = dite (decLt (number s) n)
-      (λ (h : number s < n). rw (lt-ltb (number s) n h) (one-more n domains (number s) h few a))
-      (λ (h : ¬ (number s < n)). rw (le-ltb (number s) n (omega arith)) a)
+module _ (n : ℕ) (few : n ≤ mostDomains) where
+  word-more : (domains : List ℕ) (d : ℕ) → Among n domains → Among n (withWord n domains d)
+  unfolding withWord
+  word-more domains d a = dite (decLt d n)
+      (λ (h : d < n). rw (lt-ltb d n h) (one-more n domains d h few a))
+      (λ (h : ¬ (d < n)). rw (le-ltb d n (omega arith)) a)
 
-  is-in-more : (domains s : List ℕ) (e : ℕ) → e < n → Among n domains → isIn (withName number n domains s) e ≡ (eqb (number s) e || isIn domains e)
-  unfolding withName
-  is-in-more domains s e l a = dite (decLt (number s) n)
-      (λ (h : number s < n).
-      rw (lt-ltb (number s) n h, contains-after-insert domains (number s) e (omega (arith, a .long)), eqb-same e (number s) (number s) e (λ p. sym p) (λ p. sym p)))
-      (λ (h : ¬ (number s < n)). rw (le-ltb (number s) n (omega arith), ne-eqb (number s) e (λ q. h (omega arith))))
+  is-in-more : (domains : List ℕ) (d e : ℕ) → e < n → Among n domains → isIn (withWord n domains d) e ≡ (eqb d e || isIn domains e)
+  unfolding withWord
+  is-in-more domains d e l a = dite (decLt d n)
+      (λ (h : d < n). rw (lt-ltb d n h, contains-after-insert domains d e (omega (arith, a .long)), eqb-same e d d e (λ p. sym p) (λ p. sym p)))
+      (λ (h : ¬ (d < n)). rw (le-ltb d n (omega arith), ne-eqb d e (λ q. h (omega arith))))
 
-  names-more : (domains : List ℕ) (xs : List (List ℕ)) → Among n domains → Among n (withNames number n domains xs)
-  unfolding withNames
-  names-more domains [] a = a
-  names-more domains (x ∷ xs) a = names-more (withName number n domains x) xs (name-more domains x a)
+  words-more : (domains ds : List ℕ) → Among n domains → Among n (withWords n domains ds)
+  unfolding withWords
+  words-more domains [] a = a
+  words-more domains (d ∷ ds) a = words-more (withWord n domains d) ds (word-more domains d a)
 
-  are-in : (domains : List ℕ) (xs : List (List ℕ)) (e : ℕ) → e < n → Among n domains → isIn (withNames number n domains xs) e ≡ (anyOf (λ s. eqb (number s) e) xs || isIn domains e)
-  unfolding withNames anyOf
+  are-in : (domains ds : List ℕ) (e : ℕ) → e < n → Among n domains → isIn (withWords n domains ds) e ≡ (anyOf (λ w. eqb w e) ds || isIn domains e)
+  unfolding withWords anyOf
   are-in domains [] e l a = refl
-  are-in domains (x ∷ xs) e l a =
-      are-in (withName number n domains x) xs e l (name-more domains x a)
-      ∙ rw (is-in-more domains x e l a) (either-turned (eqb (number x) e) (anyOf (λ s. eqb (number s) e) xs) (isIn domains e))
+  are-in domains (d ∷ ds) e l a =
+      are-in (withWord n domains d) ds e l (word-more domains d a)
+      ∙ rw (is-in-more domains d e l a) (either-turned (eqb d e) (anyOf (λ w. eqb w e) ds) (isIn domains e))
 
 -- ---- the words of a grant
 
@@ -178,11 +178,15 @@ mapped f (x ∷ xs) d d′ zero l = refl
 mapped f (x ∷ xs) d d′ (suc i) l = mapped f xs d d′ i (omega arith)
 
 module _ (names : List (List ℕ)) (n : ℕ) (count : n ≡ length names) (few : n ≤ mostDomains) (apart : repeats [] names ≡ false) where
-  these-are : (xs : List (List ℕ)) → 0 ∷ withNames (numberIn names) n (replicate setSize 0) xs ≡ grantWords (these (map (λ name. among name xs) names))
+  -- the words of a list's names
+  abbrev ws : List (List ℕ) → List ℕ
+  ws xs = map (wordBy false (numberIn names)) xs
+
+  these-are : (xs : List (List ℕ)) → 0 ∷ withWords n (replicate setSize 0) (ws xs) ≡ grantWords (these (map (λ name. among name xs) names))
   these-are xs =
-      set-is n _ few (names-more (numberIn names) n few (replicate setSize 0) xs (none-in n)) _ (length-map names (λ name. among name xs) ∙ sym count)
+      set-is n _ few (words-more n few (replicate setSize 0) (ws xs) (none-in n)) _ (length-map names (λ name. among name xs) ∙ sym count)
       (λ e l.
-      are-in (numberIn names) n few (replicate setSize 0) xs e l (none-in n)
+      are-in n few (replicate setSize 0) (ws xs) e l (none-in n)
       ∙ rw (any-named names apart e (omega arith) xs, none-is-in e (omega arith), or-false)
       (mapped (λ name. among name xs) names [] false e (omega arith)))
 
@@ -190,7 +194,7 @@ module _ (names : List (List ℕ)) (n : ℕ) (count : n ≡ length names) (few :
   unfolding grantBy grantOf
   grant-is v = go (is "all" v)
     where
-      go : (t : Bool) → cond t (1 ∷ replicate setSize 0) (0 ∷ withNames (numberIn names) n (replicate setSize 0) (elements v))
+      go : (t : Bool) → cond t (1 ∷ replicate setSize 0) (0 ∷ withWords n (replicate setSize 0) (ws (elements v)))
           ≡ grantWords (cond t every (these (map (λ name. among name (elements v)) names)))
       go true = every-is
       go false = these-are (elements v)

@@ -2,4 +2,5 @@ pub mod Behind
 pub mod Walked
 pub mod Contexts
 pub mod Granted
+pub mod Placed
 pub mod Entries

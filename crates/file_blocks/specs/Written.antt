@@ -1,8 +1,8 @@
--- The words of a context and of a grant as the code writes them, names being numbered by `number`.
-use Prim.Native.Nat.{ℕ, _+_}
+-- The words of a context and of a grant as the code writes them, from the words of their names.
+use Prim.Native.Nat.{ℕ, _+_, _-_}
 use mathlib.Core.List.{List, [], _∷_, map}
-use mathlib.Core.Bool.{cond}
-use lib.Dec.{ltb}
+use mathlib.Core.Bool.{Bool, true, false, cond, _||_}
+use lib.Dec.{ltb, leb}
 use lib.ListN.{length, set, replicate}
 use Rattle.paper.specs.Common.{is}
 use Rattle.paper.specs.Limits.{mostElements}
@@ -13,21 +13,59 @@ use Rattle.paper.specs.Page.{Field}
 use Rattle.paper.specs.Entries.{valueAt}
 use Rattle.paper.specs.Rules.{descriptorsOf}
 use Rattle.paper.specs.Table.{everyWord, setSize, padded, withDomain}
+use Rattle.file_fields.specs.Fields.{between, nextAt, valueIn}
+use Rattle.file_words.specs.Words.{wordBy, wordsIn}
 
 -- words written over those from number i on, one behind the other
 unfoldable pub putFrom : ℕ → List ℕ → List ℕ → List ℕ
 putFrom i [] out = out
 putFrom i (w ∷ ws) out = putFrom (i + 1) ws (set out i w)
 
-module _ (number : List ℕ → ℕ) where
-  -- the word of an element of a pattern: 0 is `all`
-  unfoldable pub wordBy : List ℕ → ℕ
-  wordBy s = cond (is "all" s) 0 (number s + 1)
+-- ---- contexts
 
+-- the words of a pattern: those of field i, and one `all` where there is no such field in front of another
+unfoldable pub patternIn : List ℕ → List ℕ → ℕ → ℕ → List ℕ
+patternIn words starts i to = cond (ltb i to) (wordsIn words starts i) (0 ∷ [])
+
+-- the words of a context, by those of its pattern and the values of its other keys
+unfoldable pub contextOfWords : List ℕ → List ℕ → List ℕ → List ℕ
+contextOfWords pattern uid gid = length pattern ∷ sortNumber (sortOf uid) ∷ sortNumber (sortOf gid) ∷ 0 ∷ padded mostElements pattern
+
+-- those of the context at a place, among the fields from one number up to another
+unfoldable pub contextIn : List ℕ → List ℕ → List ℕ → List ℕ → ℕ → ℕ → ℕ → List ℕ
+contextIn t list words starts place from to =
+    contextOfWords (patternIn words starts (nextAt list (callContextIn place) from (to - from)) to)
+    (valueAt (uidIn place) (between t list from to))
+    (valueAt (gidIn place) (between t list from to))
+
+-- ---- grants
+
+-- field i grants every domain, or there is no such field in front of another
+unfoldable pub everyIn : List ℕ → List ℕ → ℕ → ℕ → Bool
+everyIn t list i to = leb to i || is "all" (valueIn t list i)
+
+-- a set of domains with this one in it; a number that is not below n is none
+unfoldable pub withWord : ℕ → List ℕ → ℕ → List ℕ
+withWord n domains d = cond (ltb d n) (withDomain domains d) domains
+
+-- the set with all of these in it
+unfoldable pub withWords : ℕ → List ℕ → List ℕ → List ℕ
+withWords n domains [] = domains
+withWords n domains (d ∷ ds) = withWords n (withWord n domains d) ds
+
+-- the words of the grant at a place, among the fields from one number up to another, by those of its names, of which there are n
+unfoldable pub grantIn : List ℕ → List ℕ → List ℕ → List ℕ → ℕ → ℕ → ℕ → ℕ → List ℕ
+grantIn t list words starts place from to n =
+    cond (everyIn t list (nextAt list place from (to - from)) to)
+    (everyWord ∷ replicate setSize 0)
+    (0 ∷ withWords n (replicate setSize 0) (wordsIn words starts (nextAt list place from (to - from))))
+
+-- ---- by numbers
+
+module _ (number : List ℕ → ℕ) where
   -- the words of a context, by the values of its keys
   unfoldable pub contextBy : List ℕ → List ℕ → List ℕ → List ℕ
-  contextBy pattern uid gid =
-      length (elements pattern) ∷ sortNumber (sortOf uid) ∷ sortNumber (sortOf gid) ∷ 0 ∷ padded mostElements (map wordBy (elements pattern))
+  contextBy pattern uid gid = contextOfWords (map (wordBy true number) (elements pattern)) uid gid
 
   -- the same of the context at a place, among these fields
   abbrev pub contextAt : ℕ → List Field → List ℕ
@@ -37,15 +75,6 @@ module _ (number : List ℕ → ℕ) where
   abbrev pub countsBy : List Field → List ℕ
   countsBy fs = number (valueAt subjectOfEntry fs) ∷ descriptorsOf canRead fs ∷ descriptorsOf canWrite fs ∷ []
 
-  -- a set of domains with the one of this name in it; a name whose number is not below n is none
-  unfoldable pub withName : ℕ → List ℕ → List ℕ → List ℕ
-  withName n domains s = cond (ltb (number s) n) (withDomain domains (number s)) domains
-
-  -- the set with all of these in it
-  unfoldable pub withNames : ℕ → List ℕ → List (List ℕ) → List ℕ
-  withNames n domains [] = domains
-  withNames n domains (s ∷ names) = withNames n (withName n domains s) names
-
   -- the words of a grant among n domains
   unfoldable pub grantBy : ℕ → List ℕ → List ℕ
-  grantBy n v = cond (is "all" v) (everyWord ∷ replicate setSize 0) (0 ∷ withNames n (replicate setSize 0) (elements v))
+  grantBy n v = cond (is "all" v) (everyWord ∷ replicate setSize 0) (0 ∷ withWords n (replicate setSize 0) (map (wordBy false number) (elements v)))

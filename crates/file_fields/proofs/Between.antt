@@ -1,20 +1,20 @@
 -- The fields between two numbers of the list: one field at a time, stretch by stretch, and with one put behind them.
 use mathlib.Core.Path.{_≡_, refl, sym, ap, _∙_}
 use mathlib.Core.Bool.{Bool, true, false, cond}
-use mathlib.Core.List.{List, [], _∷_, _++_, map, map-append}
+use mathlib.Core.List.{List, [], _∷_, _++_, map, flatMap, append-nil, map-append}
 use Prim.Native.Nat.{ℕ, zero, suc, _+_, _-_, _*_, _<_, _≤_}
 use native.Mathlib.Nat.{zero-add}
 use native.Mathlib.Omega.{arith}
 use lib.Dec.{eqb}
-use lib.ListN.{length, getD, take, drop, set, length-take, length-drop}
+use lib.ListN.{length, getD, take, drop, set, length-append, length-take, length-drop}
 use lib.Seq.{getD-set-same, getD-set-other}
 use borrow.Author.Tests.{eqb-true, eq-eqb, ne-eqb}
-use Rattle.paper.specs.Common.{bytes, isEmpty, countUp}
+use Rattle.paper.specs.Common.{bytes, isEmpty, allOf, countUp}
 use Rattle.paper.specs.Page.{Field}
 use Rattle.paper.specs.Entries.{isAt, defaultAt, meant, valueAt, upToNext, stretchesFrom}
-use Rattle.laws.proofs.Counting.{counted-append}
-use Rattle.file_fields.specs.Fields.{fieldSize, placeIn, lineIn, startIn, endIn, valueIn, fieldAt, between, withField, nextAt, countAt, valueOr}
-use Rattle.file_fields.proofs.Laws.{room-for-line, room-for-start, room-for-end}
+use Rattle.laws.proofs.Counting.{counted-append, allOf-counted, flatMap-append}
+use Rattle.file_fields.specs.Fields.{fieldSize, placeIn, lineIn, startIn, endIn, valueIn, fieldAt, between, bytesTo, withField, nextAt, countAt, valueOr}
+use Rattle.file_fields.proofs.Laws.{bytes-more, room-for-line, room-for-start, room-for-end}
 
 -- ---- one field at a time
 
@@ -42,6 +42,45 @@ module _ (t list : List ℕ) where
   pub between-none : (i to : ℕ) → to ≤ i → between t list i to ≡ []
   unfolding between
   between-none i to h = let e : to - i ≡ 0 = omega arith in rw e (run-none i)
+
+  -- ---- the first of them, and the last
+
+  pub between-split : (i n : ℕ) → i ≤ n → between t list 0 n ≡ between t list 0 i ++ between t list i n
+  unfolding between
+  between-split i n h =
+      let e : n - 0 ≡ i + (n - i) = omega arith in
+      let f : i - 0 ≡ i = omega arith in
+      rw (e, f, counted-append 0 i (n - i), zero-add) (map-append (fieldAt t list) (countUp 0 i) (countUp i (n - i)))
+
+  pub between-last : (i : ℕ) → between t list 0 (i + 1) ≡ between t list 0 i ++ (fieldAt t list i ∷ [])
+  between-last i =
+      between-split i (i + 1) (omega arith)
+      ∙ ap (λ (l : List Field). between t list 0 i ++ l)
+      (between-more i (i + 1) (omega arith) ∙ ap (λ (l : List Field). fieldAt t list i ∷ l) (between-none (i + 1) (i + 1) (omega arith)))
+
+  -- a test of every field holds of each
+  pub each-field : (test : Field → Bool) (n i : ℕ) → allOf test (between t list 0 n) ≡ true → i < n → test (fieldAt t list i) ≡ true
+  unfolding between
+  each-field test n i h l = allOf-counted (fieldAt t list) test 0 (n - 0) h i (omega arith) (omega arith)
+
+  -- what the fields before number i have, one behind the other
+  module _ {A : Type 0} (names : Field → List A) where
+    pub names-more : (i : ℕ) → flatMap names (between t list 0 (i + 1)) ≡ flatMap names (between t list 0 i) ++ names (fieldAt t list i)
+    unfolding flatMap
+    names-more i =
+        ap (flatMap names) (between-last i)
+        ∙ flatMap-append names (between t list 0 i) (fieldAt t list i ∷ [])
+        ∙ ap (λ (l : List A). flatMap names (between t list 0 i) ++ l) (append-nil (names (fieldAt t list i)))
+
+    pub names-split : (i n : ℕ) → i ≤ n → flatMap names (between t list 0 n) ≡ flatMap names (between t list 0 i) ++ flatMap names (between t list i n)
+    names-split i n h = ap (flatMap names) (between-split i n h) ∙ flatMap-append names (between t list 0 i) (between t list i n)
+
+    pub names-fewer : (i n : ℕ) → i ≤ n → length (flatMap names (between t list 0 i)) ≤ length (flatMap names (between t list 0 n))
+    names-fewer i n h = omega (arith, ap length (names-split i n h) ∙ length-append (flatMap names (between t list 0 i)) (flatMap names (between t list i n)))
+
+    pub names-none : flatMap names (between t list 0 0) ≡ []
+    unfolding flatMap
+    names-none = ap (flatMap names) (between-none 0 0 (omega arith))
 
   place-at : (i p : ℕ) (e : Bool) → eqb (placeIn list i) p ≡ e → isAt p (fieldAt t list i) ≡ e
   unfolding fieldAt
@@ -197,7 +236,7 @@ module _ (t list : List ℕ) (p from to : ℕ) where
     unfolding between
     value-is-omitted h = sym (value-omitted t list omitted none p from (to - from) (omega (arith, next-from t list p from (to - from))))
 
-    value-found : n < to → valueOr omitted none p (between t list from to) ≡ cond (isEmpty (valueIn t list n)) none (valueIn t list n)
+    pub value-found : n < to → valueOr omitted none p (between t list from to) ≡ cond (isEmpty (valueIn t list n)) none (valueIn t list n)
     unfolding between
     value-found h = rw e (value-before t list omitted none p from (to - from) (omega (arith, next-from t list p from (to - from))))
 
@@ -265,6 +304,15 @@ module _ (list : List ℕ) (n line place start end : ℕ) (room : fieldSize * (n
   put-end : endIn put n ≡ end
   unfolding withField
   put-end = getD-set-same put₃ (fieldSize * n + 3) end 0 (room-for-end list n room (fieldSize * n) place (fieldSize * n + 1) line (fieldSize * n + 2) start)
+
+  -- the values before it have as many bytes as they had
+  bytes-stay : (k : ℕ) → k ≤ n → bytesTo put k ≡ bytesTo list k
+  unfolding bytesTo
+  bytes-stay zero h = refl
+  bytes-stay (suc k) h = rw (bytes-stay k (omega arith), put-other (fieldSize * k + 2) (omega arith), put-other (fieldSize * k + 3) (omega arith)) refl
+
+  pub bytes-put : bytesTo put (n + 1) ≡ bytesTo list n + (end - start)
+  bytes-put = rw (bytes-more put n, bytes-stay n (omega arith), put-start, put-end) refl
 
   module _ (t : List ℕ) where
     put-field-at : fieldAt t put n ≡ record { line = line; place = place; start = start; value = take (end - start) (drop start t) }

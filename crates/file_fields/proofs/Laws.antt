@@ -2,14 +2,16 @@
 use mathlib.Core.Path.{_≡_, refl, _∙_}
 use mathlib.Core.Bool.{Bool, true, false, cond}
 use mathlib.Core.List.{List}
-use Prim.Native.Nat.{ℕ, suc, _+_, _-_, _*_, _^_, _<_, _≤_}
+use mathlib.Core.Logic.{⊎-elim}
+use Prim.Native.Nat.{ℕ, zero, suc, _+_, _-_, _*_, _^_, _<_, _≤_}
+use native.Mathlib.Nat.{eq-or-lt-of-le}
 use native.Mathlib.Omega.{arith}
 use mir.Syntax.{w64}
 use mir.Val.{Fits}
 use lib.Dec.{eqb}
 use lib.ListN.{length, set, length-set}
 use borrow.Author.Tests.{eq-eqb, ne-eqb}
-use Rattle.file_fields.specs.Fields.{fieldSize, placeIn, nextAt, oneIn, countAt, withField}
+use Rattle.file_fields.specs.Fields.{fieldSize, placeIn, startIn, endIn, bytesTo, nextAt, oneIn, countAt, withField}
 
 -- ---- the next field of a place
 
@@ -66,6 +68,21 @@ module _ (list : List ℕ) (place i to count n : ℕ) where
   pub count-none : to ≤ i → count + countAt list place i (to - i) ≡ n → count ≡ n
   unfolding countAt
   count-none h inv = let q : count + 0 ≡ n = rw (none-left i to h) at inv in omega (arith, q)
+
+-- ---- the bytes of the values, one field more
+
+pub bytes-more : (list : List ℕ) (n : ℕ) → bytesTo list (n + 1) ≡ bytesTo list n + (endIn list n - startIn list n)
+unfolding bytesTo
+bytes-more list n = let e : n + 1 ≡ suc n = omega arith in rw e refl
+
+pub bytes-fewer : (list : List ℕ) (i n : ℕ) → i ≤ n → bytesTo list i ≤ bytesTo list n
+unfolding bytesTo
+bytes-fewer list i zero h = let e : i ≡ 0 = omega arith in rw e (omega arith)
+bytes-fewer list i (suc n) h =
+    ⊎-elim
+    (λ (e : i ≡ suc n). rw e (omega arith))
+    (λ (l : i < suc n). omega (arith, bytes-fewer list i n (omega arith)))
+    (eq-or-lt-of-le h)
 
 -- ---- one field put into the list
 

@@ -14,12 +14,12 @@ use Rattle.text_page.specs.Walk.{atStart, pageLeft, pageNext, Within}
 use Rattle.text_page.specs.declared.Cursor.{Cursor}
 use Rattle.text_page.specs.declared.Next as next
 use Rattle.text_page.specs.declared.Next.the-variants.{Field, End, Fault}
-use Rattle.file_fields.specs.Fields.{fieldSize, between, withField}
+use Rattle.file_fields.specs.Fields.{fieldSize, between, bytesTo, withField}
 use Rattle.file_fields.specs.Listed.{mostFields, foundIn}
 use Rattle.file_fields.specs.declared.Found.{Found}
 use Rattle.file_fields.specs.declared.Found.the-variants.{Listed, Refused}
 use Rattle.file_fields.proofs.Laws.{length-put}
-use Rattle.file_fields.proofs.Between.{between-none, between-put}
+use Rattle.file_fields.proofs.Between.{between-none, between-put, bytes-put}
 
 and-none : (o : Outcome) → andFields [] o ≡ o
 and-none (fields fs) = refl
@@ -36,6 +36,10 @@ module _ (t list : List ℕ) (c : Cursor) (e : c ≡ atStart) where
 
   pub starts-few : 8 * 0 ≤ c .at
   starts-few = omega arith
+
+  pub starts-bytes : bytesTo list 0 ≤ c .at
+  unfolding bytesTo
+  starts-bytes = omega arith
 
   pub starts-within : c .at ≤ length t
   starts-within = rw e (omega arith)
@@ -66,6 +70,9 @@ module _ (t list : List ℕ) (c d : Cursor) (r : next.Next) (w : Within t (c .at
     module _ (list′ : List ℕ) (e : list′ ≡ withField list n l p a b) where
       pub keeps-length : length list′ ≡ whole
       keeps-length = rw e (length-put list n l p a b ∙ same)
+
+      pub bytes-few : bytesTo list n ≤ c .at → bytesTo list′ (n + 1) ≤ d .at
+      bytes-few k = rw e (omega (arith, bytes-put list n l p a b room-left, field-within .5))
 
       pub again : pageLeft t c ≡ pageNext t r → andFields (between t list 0 n) (pageLeft t c) ≡ pageOf t → andFields (between t list′ 0 (n + 1)) (pageLeft t d) ≡ pageOf t
       again f inv =

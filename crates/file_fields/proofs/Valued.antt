@@ -2,13 +2,14 @@
 use mathlib.Core.Path.{_≡_, refl, sym, ap, _∙_}
 use mathlib.Core.Bool.{Bool, true, false, cond, not, _||_}
 use mathlib.Core.List.{List, [], _∷_, map}
-use Prim.Native.Nat.{ℕ, _+_, _-_, _*_, _^_, _<_, _≤_}
+use Prim.Native.Nat.{ℕ, zero, suc, _+_, _-_, _*_, _^_, _<_, _≤_}
 use native.Mathlib.Omega.{arith}
-use mir.Syntax.{w64}
+use mir.Syntax.{w16, w64}
 use mir.Val.{Fits}
 use lib.Dec.{eqb}
-use lib.ListN.{length, getD, take, drop, length-map, length-take, length-drop, drop-of-length-le}
-use borrow.Author.Tests.{eq-eqb, ne-eqb, lt-ltb, le-ltb}
+use lib.ListN.{length, getD, take, drop, length-map, length-take, drop-of-length-le}
+use lib.Seq.{drop-drop}
+use borrow.Author.Tests.{eqb-false, eq-eqb, ne-eqb, lt-ltb, le-ltb}
 use Rattle.paper.specs.Common.{isEmpty, is, cut, onPiece}
 use Rattle.paper.specs.Text.{comma}
 use Rattle.paper.specs.Scalars.{root, user, sortNumber, sortOf}
@@ -16,7 +17,7 @@ use Rattle.paper.specs.Lists.{bracketed, inside, spaced, unspaced, elementsIn, 
 use Rattle.paper.specs.Rules.{earlier}
 use Rattle.laws.proofs.Places.{drop-more}
 use Rattle.file_fields.specs.Fields.{listSpaced}
-use Rattle.file_fields.specs.Values.{insideOf, commas}
+use Rattle.file_fields.specs.Values.{insideOf, block, commas}
 
 -- ---- the sort
 
@@ -67,13 +68,16 @@ module _ (v : List ℕ) where
       go true k = k
       go false k = refl
 
-  pub inside-short : length (insideOf v) ≤ length v
+  inside-shorter : length (insideOf v) ≤ length v - 2
   unfolding insideOf
-  inside-short = go (bracketed v)
+  inside-shorter = go (bracketed v)
     where
-      go : (b : Bool) → length (cond b (inside v) []) ≤ length v
-      go true = rw length-take (omega (arith, length-drop 1 v))
+      go : (b : Bool) → length (cond b (inside v) []) ≤ length v - 2
+      go true = rw length-take (omega arith)
       go false = omega arith
+
+  pub inside-short : length (insideOf v) ≤ length v
+  inside-short = omega (arith, inside-shorter)
 
 pieces-counted : (s : List ℕ) → length (cut comma s) ≡ commas s + 1
 unfolding cut commas onPiece
@@ -84,6 +88,15 @@ pieces-counted (b ∷ bs) = go (eqb b comma) (cut comma bs) (pieces-counted bs)
     go true ps ih = omega arith
     go false [] ih = absurd (omega arith)
     go false (p ∷ ps) ih = omega arith
+
+commas-few : (s : List ℕ) → commas s ≤ length s
+unfolding commas
+commas-few [] = omega arith
+commas-few (b ∷ bs) = go (eqb b comma) (commas-few bs)
+  where
+    go : (t : Bool) → commas bs ≤ length bs → cond t 1 0 + commas bs ≤ suc (length bs)
+    go true ih = omega arith
+    go false ih = omega arith
 
 module _ (s : List ℕ) (i count : ℕ) where
   pub commas-more : (one : ℕ) (b : Bool) → i < length s → b ≡ eqb (getD s i 0) comma → one ≡ cond b 1 0 → count + commas (drop i s) ≡ commas s → count + one + commas (drop (i + 1) s) ≡ commas s
@@ -104,8 +117,38 @@ module _ (i count one n : ℕ) (b : Bool) (e : one ≡ cond b 1 0) (low : count 
   pub count-keeps-low : count + one ≤ i + 1
   count-keeps-low = omega (arith, one-if-little b one e)
 
-  pub commas-fit : n * 1 < 2 ^ 63 → i < n → Fits w64 (count + one)
+  pub commas-fit : n ≤ block → i < n → Fits w16 (count + one)
   commas-fit l h = omega (arith, one-if-little b one e)
+
+-- ---- block by block
+
+few-commas : (s : List ℕ) → commas s ≤ length s
+unfolding commas
+few-commas [] = omega arith
+few-commas (b ∷ bs) = omega (arith, few-commas bs, one-if-little (eqb b comma) (cond (eqb b comma) 1 0) refl)
+
+commas-split : (n : ℕ) (s : List ℕ) → commas (take n s) + commas (drop n s) ≡ commas s
+unfolding commas
+commas-split zero s = omega arith
+commas-split (suc n) [] = refl
+commas-split (suc n) (b ∷ bs) = omega (arith, commas-split n bs)
+
+module _ (s : List ℕ) (at count : ℕ) (inv : count + commas (drop at s) ≡ commas s) where
+  pub commas-low : count ≤ length s
+  commas-low = omega (arith, inv, few-commas s)
+
+  pub block-short : (p : List ℕ) → p ≡ take (at + block - at) (drop at s) → length p ≤ block
+  block-short p e = rw (e, length-take) (omega arith)
+
+  module _ (p : List ℕ) (e : p ≡ take (at + block - at) (drop at s)) (k : ℕ) (q : k ≡ commas p) where
+    pub blocks-on : count + k + commas (drop (at + block) s) ≡ commas s
+    blocks-on =
+        let w : at + block - at ≡ block = omega arith in
+        let f : k ≡ commas (take block (drop at s)) = q ∙ rw (e, w) refl in
+        rw f (omega (arith, inv, commas-split block (drop at s), ap commas (drop-drop block at s)))
+
+    pub blocks-fit : length s * 1 < 2 ^ 63 → Fits w64 (count + k)
+    blocks-fit l = omega (arith, blocks-on, few-commas s)
 
 module _ (v s : List ℕ) (e : s ≡ insideOf v) where
   elements-counted : length (elements v) ≡ cond (isEmpty s) 0 (commas s + 1)
@@ -115,6 +158,16 @@ module _ (v s : List ℕ) (e : s ≡ insideOf v) where
       go : (b : Bool) → length (cond b [] (map unspaced (cut comma s))) ≡ cond b 0 (commas s + 1)
       go true = refl
       go false = length-map (cut comma s) unspaced ∙ pieces-counted s
+
+  few-in-value : length (elements v) ≤ length v
+  few-in-value = rw elements-counted (go (isEmpty s) refl)
+    where
+      shorter : length s ≤ length v - 2
+      shorter = rw e (inside-shorter v)
+
+      go : (b : Bool) → isEmpty s ≡ b → cond b 0 (commas s + 1) ≤ length v
+      go true q = omega arith
+      go false q = omega (arith, commas-few s, shorter, eqb-false (length s) 0 q)
 
   pub no-elements : length s ≡ 0 → 0 ≡ length (elements v)
   no-elements h = sym (elements-counted ∙ rw (eq-eqb (length s) 0 h) refl)
@@ -127,6 +180,10 @@ module _ (v s : List ℕ) (e : s ≡ insideOf v) where
 
   pub elements-fit : (n : ℕ) → n ≤ length s → length v * 1 < 2 ^ 63 → Fits w64 (n + 1)
   elements-fit n h l = let q : length s ≤ length v = rw e (inside-short v) in omega arith
+
+-- no more elements than bytes
+pub elements-short : (v : List ℕ) → length (elements v) ≤ length v
+elements-short v = few-in-value v (insideOf v) refl
 
 -- ---- the smaller of two lines
 

@@ -37,6 +37,11 @@ fieldAt t list i = record { line = lineIn list i; place = placeIn list i; start 
 unfoldable pub between : List ℕ → List ℕ → ℕ → ℕ → List Field
 between t list from to = map (fieldAt t list) (countUp from (to - from))
 
+-- how many bytes the values of the first n fields have together
+unfoldable pub bytesTo : List ℕ → ℕ → ℕ
+bytesTo list zero = 0
+bytesTo list (suc n) = bytesTo list n + (endIn list n - startIn list n)
+
 -- the list with one field more, as number i
 unfoldable pub withField : List ℕ → ℕ → ℕ → ℕ → ℕ → ℕ → List ℕ
 withField list i line place start end =

@@ -14,3 +14,7 @@ insideOf v = cond (bracketed v) (inside v) []
 unfoldable pub commas : List ℕ → ℕ
 commas [] = 0
 commas (b ∷ bs) = cond (eqb b comma) 1 0 + commas bs
+
+-- so many bytes are looked at for commas at a time
+abbrev pub block : ℕ
+block = 32768

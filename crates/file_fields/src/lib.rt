@@ -86,7 +86,7 @@ fn put_field(list: &mut [usize], i: usize, line: usize, place: usize, start: usi
 fn list_page(t: &[u8], list: &mut [usize]) -> Found
     requires { ⌜ length (now t) ≤ textBytes ⌝ }
     requires { ⌜ fieldSize * mostFields ≤ length (now list) ⌝ }
-    ensures { λ r. ⌜ (foundIn (now (t .entry)) (now (list .exit)) r ≡ pageOf (now (t .entry))) × Holds (now (list .exit)) r ⌝ }
+    ensures { λ r. ⌜ (foundIn (now (t .entry)) (now (list .exit)) r ≡ pageOf (now (t .entry))) × Holds (now (t .entry)) (now (list .exit)) r ⌝ }
 {
     let mut c = text_page::start();
     let mut n: usize = 0;
@@ -116,7 +116,7 @@ fn list_page(t: &[u8], list: &mut [usize]) -> Found
 // The fields of a text, or its refusal: 2, then 3, then 4, 9 and 5.
 pub fn list_fields(t: &[u8], list: &mut [usize]) -> Found
     requires { ⌜ fieldSize * mostFields ≤ length (now list) ⌝ }
-    ensures { λ r. ⌜ (foundIn (now (t .entry)) (now (list .exit)) r ≡ textPage (now (t .entry))) × Holds (now (list .exit)) r ⌝ }
+    ensures { λ r. ⌜ (foundIn (now (t .entry)) (now (list .exit)) r ≡ textPage (now (t .entry))) × Holds (now (t .entry)) (now (list .exit)) r ⌝ }
 {
     if limit::TEXT_BYTES < t.len() {
         return Found::Refused {

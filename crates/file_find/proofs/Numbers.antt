@@ -26,10 +26,10 @@ use Rattle.laws_file.proofs.Ordered.{fields-filled}
 use Rattle.laws_file.proofs.Reader.{accepted-page}
 use Rattle.file_fields.specs.Fields.{listSpaced, wellSpaced}
 use Rattle.file_read.proofs.Spacing.{all-spaced-well}
-use Rattle.file_listing.specs.declared.Naming.{Naming}
-use Rattle.file_listing.specs.declared.Naming.the-variants.{One, Each, Entry, Nothing}
-use Rattle.file_listing.specs.Things.{thing, nameThing, elementThings, eachThing, namingAt, thingsAs, thingsIn, thingsOf, countAs, thingCount}
-use Rattle.file_listing.proofs.Words.{byTests, file-long}
+use Rattle.file_things.specs.declared.Naming.{Naming}
+use Rattle.file_things.specs.declared.Naming.the-variants.{One, Each, Entry, Nothing}
+use Rattle.file_things.specs.Things.{thing, nameThing, elementThings, eachThing, namingAt, thingsAs, thingsIn, thingsOf, countAs, thingCount}
+use Rattle.file_things.proofs.Words.{byTests, file-long}
 use Rattle.file_listing.proofs.Small.{entry-bytes, principal-bare, subject-follows}
 use Rattle.file_find.specs.Number.{namesOfKind, numberOf}
 

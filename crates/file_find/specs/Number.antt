@@ -5,7 +5,7 @@ use mathlib.Core.Bool.{cond}
 use lib.Dec.{eqb}
 use lib.ListN.{length, getD, take, drop}
 use Rattle.paper.specs.Common.{numberIn}
-use Rattle.file_listing.specs.Things.{thingSize}
+use Rattle.file_things.specs.Things.{thingSize}
 
 -- the kind of thing i
 abbrev pub kindIn : List ℕ → ℕ → ℕ

@@ -1,12 +1,12 @@
 // A name's number, by the list of what a text names. Any bytes and any words will do.
-use file_listing::THING_SIZE;
+use file_things::THING_SIZE;
 ghost use mathlib.Core.Path.{_≡_};
 ghost use mathlib.Core.Bool.{cond, _&&_};
 ghost use Prim.Native.Nat.{_+_, _*_, _<_, _≤_};
 ghost use lib.Dec.{eqb};
 ghost use lib.ListN.{length, getD};
 ghost use Rattle.paper.specs.Common.{same};
-ghost use Rattle.file_listing.specs.Things.{thingSize};
+ghost use Rattle.file_things.specs.Things.{thingSize};
 ghost use Rattle.file_find.specs.Number.{kindIn, nameIn, numberOf};
 
 // In a thing, whose first word is its kind.

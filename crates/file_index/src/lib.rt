@@ -12,9 +12,9 @@ ghost use Rattle.file_index.specs.Buckets.{hashes, hashOf, bucketOf, tur
 // The multiplier of hashes: whoever clears an index puts it into its first word.
 pub const MULTIPLIER: usize = 65599;
 
-const MULTIPLIERS: usize = 1048576;
+pub const MULTIPLIERS: usize = 1048576;
 
-const HASHES: usize = 4294967296;
+pub const HASHES: usize = 4294967296;
 
 const SPREAD: usize = 2654435769;
 

@@ -17,7 +17,7 @@ use Rattle.file_read.proofs.Finding.{file-refused, file-held, rules-fault, rule
 use Rattle.filled_lines.specs.Wrote.{Wrote}
 use Rattle.file_listing.specs.declared.Listing.{Listing}
 use Rattle.file_listing.specs.declared.Listing.the-variants as listing
-use Rattle.file_listing.specs.Things.{thingsOf}
+use Rattle.file_things.specs.Things.{thingsOf}
 use Rattle.file_listing.specs.Answer.{listingOf, listLeft, wordsListed, listAnswer, listLeaves}
 
 -- ---- the room

@@ -7,7 +7,7 @@ use Rattle.paper.specs.Answers.{packed}
 use Rattle.paper.proofs.Computing.{computing}
 use Rattle.paper.proofs.Example.{example}
 use Rattle.file_listing.specs.declared.Listing.the-variants.{Listed, Unlisted}
-use Rattle.file_listing.specs.Things.{thing, nameThing, elementThings, eachThing, namingAt, thingsIn, thingsOf}
+use Rattle.file_things.specs.Things.{thing, nameThing, elementThings, eachThing, namingAt, thingsIn, thingsOf}
 use Rattle.file_listing.specs.Answer.{listAnswer, listLeft, listLeaves, listingPacked}
 
 -- Meter, its object, Main, its function, Bill, its two functions, and the entry of Bill

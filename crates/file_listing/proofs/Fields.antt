@@ -10,9 +10,9 @@ use Rattle.file_fields.specs.Fields.{fieldAt, between}
 use Rattle.file_fields.proofs.Between.{between-more, between-none}
 use Rattle.filled_lines.specs.Wrote.{Wrote}
 use Rattle.filled_lines.proofs.Writing.{left, over, Writing, begin, start, same, finish, fits, more}
-use Rattle.file_listing.specs.Things.{thingsIn, thingsOf}
-use Rattle.file_listing.specs.Writable.{Writable, behindIn}
-use Rattle.file_listing.proofs.Elements.{next-asked}
+use Rattle.file_things.specs.Things.{thingsIn, thingsOf}
+use Rattle.file_things.specs.Writable.{Writable, behindIn}
+use Rattle.file_things.proofs.Elements.{next-asked}
 
 -- the things of the fields before number i are there
 abbrev pub ThingsWritten : List ℕ → List ℕ → ℕ → ℕ → List ℕ → List ℕ → ℕ → Type 0

@@ -1,6 +1,3 @@
-pub mod Things
-pub mod Words
-pub mod Elements
 pub mod Fields
 pub mod Answers
 pub mod Agree

@@ -15,8 +15,8 @@ use Rattle.laws_file.specs.Accepted.{total}
 use Rattle.laws_file.proofs.Kept.{Counted, counted, no-line}
 use Rattle.laws_file.proofs.EachRule.{page-numbered}
 use Rattle.laws_file.proofs.Reader.{accepted-page}
-use Rattle.file_listing.specs.Things.{thingSize, namingAt, thingsOf, countAs, thingCount}
-use Rattle.file_listing.proofs.Words.{byTests, file-long}
+use Rattle.file_things.specs.Things.{thingSize, namingAt, thingsOf, countAs, thingCount}
+use Rattle.file_things.proofs.Words.{byTests, file-long}
 
 -- what a field names is counted by one of the five limits
 few-in : (f : Field)

@@ -28,9 +28,9 @@ use Rattle.file_fields.specs.declared.Found.{Found}
 use Rattle.file_fields.specs.declared.Found.the-variants.{Listed}
 use Rattle.file_read.specs.Readable.{isLow, Readable}
 use Rattle.file_read.proofs.Pages.{text-readable, text-page, text-short}
-use Rattle.file_listing.specs.Things.{thing, nameThing, elementThings, eachThing, namingAt, thingsAs, thingsIn, thingsOf}
-use Rattle.file_listing.specs.Writable.{isSmall, AllSmall}
-use Rattle.file_listing.proofs.Words.{byTests}
+use Rattle.file_things.specs.Things.{thing, nameThing, elementThings, eachThing, namingAt, thingsAs, thingsIn, thingsOf}
+use Rattle.file_things.specs.Writable.{isSmall, AllSmall}
+use Rattle.file_things.proofs.Words.{byTests}
 
 -- ---- a thing
 

@@ -9,7 +9,7 @@ use Rattle.paper.specs.Promises.{fileOf}
 use Rattle.paper.specs.Answers.{Parts, refused, packed}
 use Rattle.file_listing.specs.declared.Listing.{Listing}
 use Rattle.file_listing.specs.declared.Listing.the-variants.{Listed, Unlisted}
-use Rattle.file_listing.specs.Things.{thingsOf}
+use Rattle.file_things.specs.Things.{thingsOf}
 
 -- how many words the list of an accepted file takes, or the refusal
 abbrev pub listingOf : Outcome → Listing

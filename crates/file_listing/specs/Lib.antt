@@ -1,3 +1,1 @@
-pub mod Things
 pub mod Answer
-pub mod Writable

@@ -1,30 +1,22 @@
--- Names with numbers of their own: a set that takes each number once shows that no name stands twice, whatever numbers names.
+-- Words that a set takes once each show that no name stands twice, whatever numbers names.
 use mathlib.Core.Path.{_≡_, refl, sym, ap, _∙_}
 use mathlib.Core.Bool.{Bool, true, false, not, _&&_}
 use mathlib.Core.Logic.{⊎-elim}
-use mathlib.Core.List.{List, [], _∷_}
-use Prim.Native.Nat.{ℕ, _-_, _<_}
+use mathlib.Core.List.{List, [], _∷_, map}
+use Prim.Native.Nat.{ℕ, _+_, _<_, _≤_}
 use native.Mathlib.Omega.{arith}
+use native.Mathlib.Numerals.{add-one}
 use lib.Dec.{eqb, ltb}
-use lib.ListN.{length, take, drop}
-use borrow.Author.Tests.{eq-eqb, lt-ltb, ltb-true, not-true}
+use lib.ListN.{length, getD, drop, drop-of-length-le}
+use lib.Seq.{drop-cons}
+use borrow.Author.Tests.{eq-eqb, lt-ltb, le-ltb, ltb-true, not-true}
 use Rattle.paper.specs.Common.{same, anyOf, among}
-use Rattle.paper.specs.Lists.{elementsIn}
 use Rattle.paper.specs.Limits.{mostDomains}
 use Rattle.paper.specs.Rules.{repeats}
 use Rattle.paper.specs.Table.{isIn, withDomain}
 use Rattle.laws.proofs.Tests.{both-left, both-right, either-of, either-right, neither, same-equal}
 use Rattle.laws.proofs.Sets.{contains-after-insert, length-after-insert}
-use Rattle.text_lists.specs.Walk.{firstElement, elementAt, elementsLeft, SpacedFrom}
-use Rattle.text_lists.specs.declared.Element.{Element}
-use Rattle.text_lists.specs.declared.Element.the-variants.{Found, NoneLeft}
-use Rattle.text_lists.proofs.Walk.{left-first, left-none, left-found}
-use Rattle.file_index.specs.Buckets.{numbersIn}
-
--- the numbers of the names are below 128, not in the set, and no two of them the same
-unfoldable pub apart : (List ℕ → ℕ) → List ℕ → List (List ℕ) → Bool
-apart number set [] = true
-apart number set (x ∷ xs) = ltb (number x) mostDomains && not (isIn set (number x)) && apart number (withDomain set (number x)) xs
+use Rattle.file_names.specs.Separate.{separate}
 
 module _ (number : List ℕ → ℕ) where
   -- the set has the number of every name seen
@@ -40,49 +32,48 @@ module _ (number : List ℕ → ℕ) where
       (λ (p : among y seen ≡ true). either-right (eqb (number y) (number x)) (isIn set (number y)) (h y p))
       (either-of (same y x) (among y seen) k)
 
-  pub apart-once : (xs seen : List (List ℕ)) (set : List ℕ) → length set ≡ 8 → HasAll set seen → apart number set xs ≡ true → repeats seen xs ≡ false
-  unfolding apart repeats
-  apart-once [] seen set l h k = refl
-  apart-once (x ∷ xs) seen set l h k =
+  separate-names : (xs seen : List (List ℕ)) (set : List ℕ) → length set ≡ 8 → HasAll set seen → separate set (map number xs) ≡ true → repeats seen xs ≡ false
+  unfolding separate repeats
+  separate-names [] seen set l h k = refl
+  separate-names (x ∷ xs) seen set l h k =
       let a : ltb (number x) mostDomains ≡ true = both-left _ _ (both-left (ltb (number x) mostDomains && not (isIn set (number x))) _ k) in
       let b : isIn set (number x) ≡ false = not-true _ (both-right (ltb (number x) mostDomains) _ (both-left (ltb (number x) mostDomains && not (isIn set (number x))) _ k)) in
-      let d : apart number (withDomain set (number x)) xs ≡ true = both-right (ltb (number x) mostDomains && not (isIn set (number x))) _ k in
+      let d : separate (withDomain set (number x)) (map number xs) ≡ true = both-right (ltb (number x) mostDomains && not (isIn set (number x))) _ k in
       neither (among x seen) _ (new (among x seen) refl b)
-      (apart-once xs (x ∷ seen) (withDomain set (number x)) (length-after-insert set (number x) ∙ l) (has-more set seen x l (ltb-true _ _ a) h) d)
+      (separate-names xs (x ∷ seen) (withDomain set (number x)) (length-after-insert set (number x) ∙ l) (has-more set seen x l (ltb-true _ _ a) h) d)
     where
       new : (t : Bool) → among x seen ≡ t → isIn set (number x) ≡ false → t ≡ false
       new true e b = sym (h x e) ∙ b
       new false e b = refl
 
--- ---- the walk
+  none-seen : (set : List ℕ) → HasAll set []
+  unfolding among anyOf
+  none-seen set x h = absurd (let z : _≡_ {A = ℕ} 0 1 = cc in omega arith)
 
-none-seen : (set : List ℕ) (number : List ℕ → ℕ) (x : List ℕ) → among x [] ≡ true → isIn set (number x) ≡ true
-unfolding among anyOf
-none-seen set number x h = absurd (let z : _≡_ {A = ℕ} 0 1 = cc in omega arith)
+  pub separate-once : (xs : List (List ℕ)) (set : List ℕ) → length set ≡ 8 → separate set (map number xs) ≡ true → repeats [] xs ≡ false
+  separate-once xs set l k = separate-names xs [] set l (none-seen set) k
 
-module _ (t ix : List ℕ) (n : ℕ) (s : List ℕ) (at : ℕ) where
-  -- if what is left is apart, no name stands twice
-  abbrev pub Tells : List ℕ → ℕ → Type 0
-  Tells seen from = apart (numbersIn t ix n) seen (elementsLeft s from) ≡ true → repeats [] (elementsIn s) ≡ false
+-- ---- the walk over the words: what is left is separate exactly when all are
 
-  pub tells-first : (seen : List ℕ) → length seen ≡ 8 → at ≡ firstElement s → Tells seen at
-  tells-first seen l h k =
-      let e : elementsLeft s at ≡ elementsIn s = rw h (left-first s) in
-      apart-once (numbersIn t ix n) (elementsIn s) [] seen l (none-seen seen (numbersIn t ix n)) (rw e at k)
+module _ (words seen : List ℕ) (i : ℕ) (whole : Bool) (inv : separate seen (drop i words) ≡ whole) where
+  pub separate-done : length words ≤ i → true ≡ whole
+  unfolding separate
+  separate-done h = rw (drop-of-length-le words h) at inv
 
-  module _ (r : Element) (q : r ≡ elementAt s at) (seen : List ℕ) (inv : Tells seen at) where
-    pub tells-done : r ≡ NoneLeft → true ≡ true → repeats [] (elementsIn s) ≡ false
-    unfolding apart
-    tells-done e z = inv (rw (left-none s at r q e) refl)
+  module _ (h : i < length words) (k : ℕ) (e : k ≡ getD words i 0) where
+    separate-step : (ltb k mostDomains && not (isIn seen k) && separate (withDomain seen k) (drop (i + 1) words)) ≡ whole
+    unfolding separate
+    separate-step = rw (e, add-one) (rw (drop-cons words i 0 h) at inv)
 
-    module _ (end next : ℕ) (e : r ≡ Found end next) (k : SpacedFrom s at) (m : ℕ) (f : m ≡ numbersIn t ix n (take (end - at) (drop at s))) where
-      pub tells-on : (b : Bool) (after : List ℕ) → m < 128 → b ≡ isIn seen m → b ≡ false → after ≡ withDomain seen m → Tells after next
-      unfolding apart
-      tells-on b after l g h w d =
-          inv (rw (left-found s at r q end next e k, ← f, lt-ltb m 128 l, ← g, h, ← w) d)
+    pub separate-high : 128 ≤ k → false ≡ whole
+    separate-high l = rw (le-ltb k 128 l) at separate-step
+
+    module _ (l : k < 128) (b : Bool) (g : b ≡ isIn seen k) where
+      pub separate-seen : b ≡ true → false ≡ whole
+      separate-seen d = rw (lt-ltb k 128 l, ← g, d) at separate-step
+
+      pub separate-on : (after : List ℕ) → b ≡ false → after ≡ withDomain seen k → separate after (drop (i + 1) words) ≡ whole
+      separate-on after d w = rw w (rw (lt-ltb k 128 l, ← g, d) at separate-step)
 
 pub length-inserted-set : (seen after : List ℕ) (m : ℕ) → after ≡ withDomain seen m → length seen ≡ 8 → length after ≡ 8
 length-inserted-set seen after m e l = ap length e ∙ length-after-insert seen m ∙ l
-
-pub says-nothing : (R : Bool) → false ≡ true → R ≡ false
-says-nothing R h = absurd (let z : _≡_ {A = ℕ} 0 1 = cc in omega arith)

@@ -24,7 +24,7 @@ use Rattle.text_lists.specs.declared.Element.the-variants.{Found, NoneLeft}
 use Rattle.text_lists.proofs.Walk.{spaced-at-first, left-first, left-none, left-found, found-at, found-to}
 use Rattle.file_fields.specs.Fields.{fieldSize, placeIn, lineIn, startIn, endIn, valueIn, fieldAt, between, wellSpaced}
 use Rattle.file_fields.specs.Values.{insideOf}
-use Rattle.file_fields.proofs.Between.{between-more, between-none}
+use Rattle.file_fields.proofs.Between.{between-more, between-none, each-field, names-more, names-fewer, names-none}
 use Rattle.file_fields.proofs.Valued.{inside-elements, inside-spaced}
 use Rattle.file_index.specs.Words.{namesAt, nameSize, nameAt, multiplierIn}
 use Rattle.file_index.specs.Buckets.{hashOf, wayEnd, placeNumber, Within, numbersIn, insertedAt, inserted, Index}
@@ -36,7 +36,6 @@ use Rattle.file_names.specs.declared.indexes.Naming.the-variants.{Domain
 use Rattle.file_names.specs.declared.indexes.Entered.{Entered}
 use Rattle.file_names.specs.declared.indexes.Entered.the-variants.{Now, Twice}
 use Rattle.file_names.proofs.Seen.{repeats-append, twice-known, one-new, none-repeated, repeated-here, repeated-on}
-use Rattle.file_names.proofs.Namings.{names-more, names-fewer, names-none, each-field}
 
 -- ---- one name
 

@@ -1,158 +1,146 @@
--- What the indexes know is what the file has: so a field names what they lack exactly when it names what the file lacks.
+-- The number of a name that its map lacks is not below the map's count: so the words tell which field names what the file lacks.
 use mathlib.Core.Path.{_≡_, refl, sym, ap, _∙_}
 use mathlib.Core.Bool.{Bool, true, false, cond, not, _&&_, _||_}
-use mathlib.Core.List.{List, _∷_}
-use Prim.Native.Nat.{ℕ, _+_, _-_, _<_}
-use lib.Dec.{eqb, ltb}
-use lib.ListN.{take, drop}
-use borrow.Author.Tests.{not-true, not-false}
-use Rattle.paper.specs.Common.{bytes, same, is, allOf, anyOf, among}
-use Rattle.paper.specs.Lists.{elementsIn, elements}
+use mathlib.Core.Logic.{⊎-elim}
+use mathlib.Core.List.{List, [], _∷_, map}
+use Prim.Native.Nat.{ℕ, _+_, _<_, _≤_}
+use native.Mathlib.Omega.{arith}
+use native.Mathlib.Numerals.{add-one}
+use lib.Dec.{eqb, ltb, leb, leb·suc-suc}
+use lib.ListN.{length, getD, drop, drop-of-length-le}
+use lib.Seq.{drop-cons}
+use borrow.Author.Tests.{lt-ltb, le-ltb, le-leb, lt-leb}
+use Rattle.paper.specs.Common.{bytes, is, allOf, anyOf, among, numberIn}
+use Rattle.paper.specs.Lists.{elements}
 use Rattle.paper.specs.Listing.{objectName, subjectName, subjectMembers, subjectOfEntry}
 use Rattle.paper.specs.Page.{Field}
 use Rattle.paper.specs.Entries.{isAtOne, callContexts}
 use Rattle.paper.specs.Rules.{firstWith, subjectLists, objectLists, domainsAt, identifiersAt, allKnown, namesUnknown, unknownName}
-use Rattle.text_lists.specs.Walk.{firstElement, elementAt, elementsLeft, SpacedFrom}
-use Rattle.text_lists.specs.declared.Element.{Element}
-use Rattle.text_lists.specs.declared.Element.the-variants.{Found, NoneLeft}
-use Rattle.text_lists.proofs.Walk.{left-first, left-none, left-found}
-use Rattle.file_fields.specs.Fields.{placeIn, lineIn, valueIn, fieldAt, between}
-use Rattle.file_fields.specs.Values.{insideOf}
-use Rattle.file_fields.proofs.Valued.{inside-elements}
-use Rattle.file_index.specs.Buckets.{numbersIn, Index}
-use Rattle.file_index.specs.Maps.{Maps}
-use Rattle.file_index.proofs.Names.{same-sym}
+use Rattle.laws.proofs.Tests.{le-or-lt}
+use Rattle.file_fields.specs.Fields.{placeIn, valueIn, fieldAt}
+use Rattle.file_index.specs.Buckets.{numbersIn}
+use Rattle.file_index.specs.Maps.{Mapped}
+use Rattle.file_index.proofs.Names.{same-sym, among-number}
 use Rattle.file_index.proofs.Known.{index-known}
-use Rattle.file_names.specs.Looking.{soughtAt, knownIn, unknownBy}
-use Rattle.file_names.proofs.Scanned.{scan-here, scan-on}
-use Rattle.file_names.specs.declared.places.Sought.{Sought}
-use Rattle.file_names.specs.declared.places.Sought.the-variants.{Subject, Subjects, Objects, Functions, Nothing}
+use Rattle.file_words.specs.Looking.{soughtAt}
+use Rattle.file_words.specs.Words.{numbersOf, wordBy, wordsBy, fieldWords, wordsIn, Worded}
+use Rattle.file_words.proofs.Worded.{words-of-field}
+use Rattle.file_words.specs.declared.places.Sought.{Sought}
+use Rattle.file_words.specs.declared.places.Sought.the-variants.{Subject, Subjects, Objects, Functions, Nothing}
+use Rattle.file_names.specs.Below.{allBelow}
+
+-- ---- every word below a limit
+
+module _ (words : List ℕ) (limit i : ℕ) (whole : Bool) (inv : allBelow limit (drop i words) ≡ whole) where
+  pub below-done : length words ≤ i → true ≡ whole
+  unfolding allBelow allOf
+  below-done h = rw (drop-of-length-le words h) at inv
+
+  module _ (h : i < length words) where
+    below-step : (ltb (getD words i 0) limit && allBelow limit (drop (i + 1) words)) ≡ whole
+    unfolding allBelow allOf
+    below-step = rw add-one (rw (drop-cons words i 0 h) at inv)
+
+    pub below-fails : limit ≤ getD words i 0 → false ≡ whole
+    below-fails l = rw (le-ltb (getD words i 0) limit l) at below-step
+
+    pub below-on : getD words i 0 < limit → allBelow limit (drop (i + 1) words) ≡ whole
+    below-on l = rw (lt-ltb (getD words i 0) limit l) at below-step
 
 -- ---- one name
 
-module _ (t ix : List ℕ) (n : ℕ) (pattern a : Bool) (name : List ℕ) (e : a ≡ is "all" name) where
-  pub known-all : (pattern && a) ≡ true → true ≡ knownIn t ix n pattern name
-  unfolding knownIn
-  known-all h = rw (← e, h) refl
+-- the word of a name is below the count exactly when the name is known
+domain-below : (names : List (List ℕ)) (x : List ℕ) → ltb (wordBy false (numberIn names) x) (length names) ≡ among x names
+unfolding wordBy
+domain-below names x = sym (among-number x names)
 
-  pub known-number : (k : ℕ) → (pattern && a) ≡ false → k ≡ numbersIn t ix n name → ltb k n ≡ knownIn t ix n pattern name
-  unfolding knownIn
-  known-number k h f = rw (← e, h, f) refl
+element-below : (names : List (List ℕ)) (x : List ℕ) → ltb (wordBy true (numberIn names) x) (length names + 1) ≡ among x (bytes "all" ∷ names)
+unfolding wordBy among anyOf
+element-below names x = rw (same-sym x (bytes "all")) (go (is "all" x) (among-number x names))
+  where
+    go : (b : Bool) → among x names ≡ ltb (numberIn names x) (length names) → ltb (cond b 0 (numberIn names x + 1)) (length names + 1) ≡ (b || among x names)
+    go true e = lt-ltb 0 (length names + 1) (omega arith)
+    go false e = rw (add-one, add-one, leb·suc-suc) (sym e)
 
--- ---- every element, over any test
+not-below : (a b : ℕ) → leb a b ≡ not (ltb b a)
+not-below a b = ⊎-elim
+    (λ (l : a ≤ b). rw (le-leb a b l, le-ltb b a l) refl)
+    (λ (l : b < a). rw (lt-leb a b l, lt-ltb b a l) refl)
+    (le-or-lt a b)
 
-module _ (test : List ℕ → Bool) (s : List ℕ) (at : ℕ) where
-  pub all-first : at ≡ firstElement s → allOf test (elementsLeft s at) ≡ allOf test (elementsIn s)
-  all-first h = rw (h, left-first s)
+-- a test of words is one of the names
+all-mapped : {A B : Type 0} (f : A → B) (test : B → Bool) (xs : List A) → allOf test (map f xs) ≡ allOf (λ x. test (f x)) xs
+unfolding allOf
+all-mapped f test [] = refl
+all-mapped f test (x ∷ xs) = ap (λ (b : Bool). test (f x) && b) (all-mapped f test xs)
 
-  module _ (r : Element) (q : r ≡ elementAt s at) (inv : allOf test (elementsLeft s at) ≡ allOf test (elementsIn s)) where
-    pub all-done : r ≡ NoneLeft → true ≡ allOf test (elementsIn s)
-    unfolding allOf
-    all-done e = rw (left-none s at r q e) at inv
-
-    module _ (end next : ℕ) (e : r ≡ Found end next) (k : SpacedFrom s at) (b : Bool) (f : b ≡ test (take (end - at) (drop at s))) where
-      all-step : (b && allOf test (elementsLeft s next)) ≡ allOf test (elementsIn s)
-      unfolding allOf
-      all-step = rw (left-found s at r q end next e k, ← f) at inv
-
-      pub all-fails : not b ≡ true → false ≡ allOf test (elementsIn s)
-      all-fails h = rw (not-true b h) at all-step
-
-      pub all-on : not b ≡ false → allOf test (elementsLeft s next) ≡ allOf test (elementsIn s)
-      all-on h = rw (not-false b h) at all-step
+module _ (word : List ℕ → ℕ) (limit : ℕ) (known : List (List ℕ)) (below : (x : List ℕ) → ltb (word x) limit ≡ among x known) where
+  all-below : (xs : List (List ℕ)) → allBelow limit (map word xs) ≡ allKnown known xs
+  unfolding allBelow allKnown
+  all-below xs = all-mapped word (λ w. ltb w limit) xs ∙ (λ j. allOf (λ x. below x j) xs)
 
 -- ---- a field
 
-module _ (subject object element : List ℕ → Bool) (t list : List ℕ) (i p : ℕ) (k : Sought) (v : List ℕ) (e : p ≡ placeIn list i) (f : k ≡ soughtAt p) (q : v ≡ valueIn t list i) where
-  -- what is said of the field
-  abbrev asked : Bool
-  asked = unknownBy subject object element (soughtAt (placeIn list i)) (valueIn t list i)
-
-  same-asked : unknownBy subject object element k v ≡ asked
-  same-asked = rw (f, e, q) refl
-
-  pub asks-nothing : k ≡ Nothing → false ≡ asked
-  unfolding unknownBy
-  asks-nothing h = rw h at same-asked
-
-  module _ (r : Bool) where
-    pub asks-subject : r ≡ subject v → k ≡ Subject → not r ≡ asked
-    unfolding unknownBy
-    asks-subject g h = rw g (rw h at same-asked)
-
-    module _ (s : List ℕ) (o : s ≡ insideOf v) where
-      its-elements : elementsIn s ≡ elements v
-      its-elements = rw o (inside-elements v)
-
-      pub asks-subjects : r ≡ allOf subject (elementsIn s) → k ≡ Subjects → not r ≡ asked
-      unfolding unknownBy
-      asks-subjects g h = rw (g, its-elements) (rw h at same-asked)
-
-      pub asks-objects : r ≡ allOf object (elementsIn s) → k ≡ Objects → not r ≡ asked
-      unfolding unknownBy
-      asks-objects g h = rw (g, its-elements) (rw h at same-asked)
-
-      pub asks-functions : r ≡ allOf element (elementsIn s) → k ≡ Functions → not r ≡ asked
-      unfolding unknownBy
-      asks-functions g h = rw (g, its-elements) (rw h at same-asked)
-
--- ---- the file
-
-module _ {t ix : List ℕ} {n : ℕ} {names : List (List ℕ)} (index : Index t ix n names) where
-  known-is : (x : List ℕ) → knownIn t ix n false x ≡ among x names
-  unfolding knownIn
-  known-is x = sym (index-known index x)
-
-  element-is : (x : List ℕ) → knownIn t ix n true x ≡ among x (bytes "all" ∷ names)
-  unfolding knownIn among anyOf
-  element-is x =
-      ap (λ (b : Bool). same (bytes "all") x || b) (sym (index-known index x))
-      ∙ ap (λ (b : Bool). b || among x names) (same-sym (bytes "all") x)
-
 module _ (file : List Field) where
-  -- what knows the names of the file
-  abbrev subjectKnown : List ℕ → Bool
-  subjectKnown x = among x (domainsAt subjectName file)
+  -- a value names what the file lacks, by what it is looked up in
+  abbrev lacks : Sought → List ℕ → Bool
+  lacks Subject v = not (among v (domainsAt subjectName file))
+  lacks Subjects v = not (allKnown (domainsAt subjectName file) (elements v))
+  lacks Objects v = not (allKnown (domainsAt objectName file) (elements v))
+  lacks Functions v = not (allKnown (bytes "all" ∷ identifiersAt subjectMembers file) (elements v))
+  lacks Nothing v = false
 
-  abbrev objectKnown : List ℕ → Bool
-  objectKnown x = among x (domainsAt objectName file)
-
-  abbrev elementKnown : List ℕ → Bool
-  elementKnown x = among x (bytes "all" ∷ identifiersAt subjectMembers file)
-
-  by-the-file : (f : Field) → unknownBy subjectKnown objectKnown elementKnown (soughtAt (f .place)) (f .value) ≡ namesUnknown file f
-  unfolding namesUnknown unknownBy soughtAt isAtOne allKnown
+  by-the-file : (f : Field) → lacks (soughtAt (f .place)) (f .value) ≡ namesUnknown file f
+  unfolding namesUnknown soughtAt isAtOne
   by-the-file f = go (eqb (f .place) subjectOfEntry) (anyOf (eqb (f .place)) subjectLists) (anyOf (eqb (f .place)) objectLists) (anyOf (eqb (f .place)) callContexts)
     where
-      go : (a b c d : Bool) → unknownBy subjectKnown objectKnown elementKnown (cond a Subject (cond b Subjects (cond c Objects (cond d Functions Nothing)))) (f .value)
-          ≡ cond a (not (subjectKnown (f .value)))
-          (cond b (not (allOf subjectKnown (elements (f .value)))) (cond c (not (allOf objectKnown (elements (f .value)))) (d && not (allOf elementKnown (elements (f .value))))))
+      go : (a b c d : Bool) → lacks (cond a Subject (cond b Subjects (cond c Objects (cond d Functions Nothing)))) (f .value)
+          ≡ cond a (lacks Subject (f .value)) (cond b (lacks Subjects (f .value)) (cond c (lacks Objects (f .value)) (d && lacks Functions (f .value))))
       go true b c d = refl
       go false true c d = refl
       go false false true d = refl
       go false false false true = refl
       go false false false false = refl
 
-  pub names-unknown : (t list oix six fix : List ℕ) (i o s f : ℕ) (r : Bool) → Maps t file oix six fix o s f
-      → r ≡ unknownBy (knownIn t six s false) (knownIn t oix o false) (knownIn t fix f true) (soughtAt (placeIn list i)) (valueIn t list i) → r ≡ namesUnknown file (fieldAt t list i)
-  unfolding fieldAt
-  names-unknown t list oix six fix i o s f r maps e =
-      e
-      ∙ (λ j. unknownBy (λ x. known-is (maps .of-subjects .index) x j) (λ x. known-is (maps .of-objects .index) x j)
-      (λ x. element-is (maps .of-functions .index) x j) (soughtAt (placeIn list i)) (valueIn t list i))
-      ∙ by-the-file (fieldAt t list i)
+  module _ (t list : List ℕ) (i p : ℕ) (k : Sought) (e : p ≡ placeIn list i) (f : k ≡ soughtAt p) where
+    told : lacks k (valueIn t list i) ≡ namesUnknown file (fieldAt t list i)
+    unfolding fieldAt
+    told = rw (f, e) (by-the-file (fieldAt t list i))
+
+    pub asks-nothing : k ≡ Nothing → false ≡ namesUnknown file (fieldAt t list i)
+    asks-nothing h = rw h at told
+
+    pub asks-subject : (ix v : List ℕ) (s m : ℕ) → Mapped t ix s 128 (domainsAt 5 file) → v ≡ valueIn t list i → m ≡ numbersIn t ix s v → k ≡ Subject
+        → leb s m ≡ namesUnknown file (fieldAt t list i)
+    asks-subject ix v s m mapped q g h =
+        not-below s m ∙ rw (g, ← index-known (mapped .index) v, q) (rw h at told)
+
+    module _ (words starts ws : List ℕ) (n : ℕ) (worded : Worded (numbersOf file) t list n words starts) (l : i < n) (q : ws ≡ wordsIn words starts i) where
+      its-words : ws ≡ wordsBy (numbersOf file) k (valueIn t list i)
+      unfolding fieldWords fieldAt
+      its-words = q ∙ rw (f, e) (words-of-field (numbersOf file) t list n words starts worded i l)
+
+      module _ (limit : ℕ) (r : Bool) (g : r ≡ allBelow limit ws) where
+        pub asks-subjects : (ix : List ℕ) → Mapped t ix limit 128 (domainsAt 5 file) → k ≡ Subjects → not r ≡ namesUnknown file (fieldAt t list i)
+        unfolding wordsBy
+        asks-subjects ix mapped h =
+            rw (g, its-words, h, mapped .index .count, all-below (wordBy false (numberIn (domainsAt 5 file))) _ _ (domain-below (domainsAt 5 file)) (elements (valueIn t list i)))
+            (rw h at told)
+
+        pub asks-objects : limit ≡ length (domainsAt 2 file) → k ≡ Objects → not r ≡ namesUnknown file (fieldAt t list i)
+        unfolding wordsBy
+        asks-objects d h =
+            rw (g, its-words, h, d, all-below (wordBy false (numberIn (domainsAt 2 file))) _ _ (domain-below (domainsAt 2 file)) (elements (valueIn t list i)))
+            (rw h at told)
+
+        pub asks-functions : (functions : ℕ) → limit ≡ functions + 1 → functions ≡ length (identifiersAt 6 file) → k ≡ Functions → not r ≡ namesUnknown file (fieldAt t list i)
+        unfolding wordsBy
+        asks-functions functions c d h =
+            rw (g, its-words, h, c, d, all-below (wordBy true (numberIn (identifiersAt 6 file))) _ _ (element-below (identifiersAt 6 file)) (elements (valueIn t list i)))
+            (rw h at told)
 
 -- ---- the scan
 
 pub unknown-first : (fs : List Field) → firstWith (namesUnknown fs) fs ≡ unknownName fs
 unfolding unknownName
 unknown-first fs = refl
-
-module _ (file : List Field) (t list oix six fix : List ℕ) (i n o s f whole : ℕ) (r : Bool) (maps : Maps t file oix six fix o s f)
-    (inv : firstWith (namesUnknown file) (between t list i n) ≡ whole) (h : i < n)
-    (told : r ≡ unknownBy (knownIn t six s false) (knownIn t oix o false) (knownIn t fix f true) (soughtAt (placeIn list i)) (valueIn t list i)) where
-  pub unknown-here : (line : ℕ) → r ≡ true → line ≡ lineIn list i → line ≡ whole
-  unknown-here = scan-here (namesUnknown file) t list n i whole inv h r (names-unknown file t list oix six fix i o s f r maps told)
-
-  pub unknown-on : r ≡ false → firstWith (namesUnknown file) (between t list (i + 1) n) ≡ whole
-  unknown-on = scan-on (namesUnknown file) t list n i whole inv h r (names-unknown file t list oix six fix i o s f r maps told)

@@ -21,6 +21,8 @@ use Rattle.file_index.specs.Buckets.{Index}
 use Rattle.file_index.specs.Maps as index
 use Rattle.file_index.specs.Maps.{Maps}
 use Rattle.file_index.proofs.Known.{index-cleared}
+use Rattle.file_words.specs.Words.{numbersBy, numbersOf, Worded}
+use Rattle.file_words.proofs.Worded.{worded-known}
 use Rattle.file_names.specs.Naming.{Sound, namedAt, namesTo, IndexedAs}
 use Rattle.file_names.specs.Mapping.{Fresh, MapsTo, Distinct}
 use Rattle.file_names.specs.declared.indexes.Indexed.{Indexed}
@@ -118,6 +120,7 @@ module _ (t list : List ℕ) (n : ℕ) (sound : Sound t list n) (limits : overLi
       };
       few-objects = within-limit (namedAt 2 2) 128 few-objects oix₀ oix ofresh osame o oindexed;
       few-subjects = within-limit (namedAt 5 5) 128 few-subjects six₀ six sfresh ssame s sindexed;
+      few-functions = within-limit (membersNamed 6) 1024 few-functions fix₀ fix ffresh fsame f findexed;
     }
 
   -- ---- 7
@@ -152,6 +155,12 @@ module _ (t list : List ℕ) (n : ℕ) (sound : Sound t list n) (limits : overLi
     pub maps-told : (oix six fix : List ℕ) (r : Names) → MapsTo t fs oix six fix r → a ≡ 0 → Maps t fs oix six fix (r .objects) (r .subjects) (r .functions)
     maps-told oix six fix r maps z = maps .maps (domains-once z) (maps .line ∙ functions-once z)
 
+    -- the words that the indexes gave are those that the file gives
+    pub words-told : (oix six fix words starts : List ℕ) (r : Names) → MapsTo t fs oix six fix r
+        → Worded (numbersBy t oix (r .objects) six (r .subjects) fix (r .functions)) t list n words starts → a ≡ 0 → Worded (numbersOf fs) t list n words starts
+    words-told oix six fix words starts r maps w z =
+        worded-known t fs oix six fix (r .objects) (r .subjects) (r .functions) (maps-told oix six fix r maps z) list n words starts w
+
     pub distinct-told : a ≡ 0 → Distinct fs
     distinct-told z = record {
       objects = rw (domains-named objectName fs) at (repeated-none (namedAt objectName objectName) fs [] (sound .numbered) (objects-once (domains-once z)));
@@ -161,7 +170,18 @@ module _ (t list : List ℕ) (n : ℕ) (sound : Sound t list n) (limits : overLi
 
 -- ---- room for the names that went in
 
-pub went-room : (t : List ℕ) (fs : List Field) (oix oix₀ six six₀ fix : List ℕ) (r : Names) → MapsTo t fs oix six fix r → Fresh t oix₀ 128
-    → Fresh t six₀ 128 → length oix ≡ length oix₀ → length six ≡ length six₀
-    → (namesAt + nameSize * r .objects ≤ length oix) × (namesAt + nameSize * r .subjects ≤ length six)
-went-room t fs oix oix₀ six six₀ fix r maps of sf a b = (omega (arith, maps .few-objects, of .room), omega (arith, maps .few-subjects, sf .room))
+-- an index with no more names than its limit has room for them
+went-in : (t ix ix₀ : List ℕ) (n limit : ℕ) → n ≤ limit → Fresh t ix₀ limit → length ix ≡ length ix₀ → (namesAt + nameSize * n ≤ length ix) × (n ≤ limit)
+went-in t ix ix₀ n limit few fresh e = (omega (arith, fresh .room), few)
+
+pub went-room : (t : List ℕ) (fs : List Field) (oix oix₀ six six₀ fix fix₀ : List ℕ) (r : Names) → MapsTo t fs oix six fix r
+    → Fresh t oix₀ 128 → Fresh t six₀ 128 → Fresh t fix₀ 1024 → length oix ≡ length oix₀ → length six ≡ length six₀ → length fix ≡ length fix₀
+    → ((namesAt + nameSize * r .objects ≤ length oix) × (r .objects ≤ 128))
+    × (((namesAt + nameSize * r .subjects ≤ length six) × (r .subjects ≤ 128)) × ((namesAt + nameSize * r .functions ≤ length fix) × (r .functions ≤ 1024)))
+went-room t fs oix oix₀ six six₀ fix fix₀ r maps of sf ff a b d = (
+  went-in t oix oix₀ (r .objects) 128 (maps .few-objects) of a,
+  (
+    went-in t six six₀ (r .subjects) 128 (maps .few-subjects) sf b,
+    went-in t fix fix₀ (r .functions) 1024 (maps .few-functions) ff d,
+  ),
+)

@@ -1,68 +1,21 @@
--- What the fields of a list name, field by field, and how many names that is: over any naming, then of the maps.
+-- What the maps name, and how many names that is.
 use mathlib.Core.Path.{_≡_, refl, ap, _∙_}
 use mathlib.Core.Bool.{Bool, true, false, cond, _||_}
 use mathlib.Core.Logic.{_⊎_, inl, inr}
-use mathlib.Core.List.{List, [], _∷_, _++_, flatMap, map, append-nil, map-append}
-use Prim.Native.Nat.{ℕ, _+_, _-_, _<_, _≤_}
-use native.Mathlib.Nat.{zero-add}
+use mathlib.Core.List.{List, [], _∷_, _++_, flatMap, map}
+use Prim.Native.Nat.{ℕ, _+_, _≤_}
 use native.Mathlib.Omega.{arith}
 use lib.Dec.{eqb}
 use lib.ListN.{length, length-append}
-use Rattle.paper.specs.Common.{allOf, anyOf, countUp}
+use Rattle.paper.specs.Common.{anyOf}
 use Rattle.paper.specs.Lists.{elements}
 use Rattle.paper.specs.Listing.{objectName, subjectName}
 use Rattle.paper.specs.Page.{Field}
 use Rattle.paper.specs.Entries.{isAt, isAtOne, fieldsAt}
 use Rattle.paper.specs.Rules.{oneAt, membersAt, domainNamed, membersNamed, domainsAt, identifiersAt}
-use Rattle.laws.proofs.Counting.{counted-append, allOf-counted, flatMap-append}
 use Rattle.laws_file.specs.Accepted.{total}
-use Rattle.file_fields.specs.Fields.{fieldAt, between}
-use Rattle.file_fields.proofs.Between.{between-more, between-none}
-use Rattle.file_names.specs.Naming.{namedAt, namesTo}
+use Rattle.file_names.specs.Naming.{namedAt}
 use Rattle.file_names.proofs.Seen.{PartOf}
-
--- ---- field by field
-
-module _ (t list : List ℕ) where
-  pub between-split : (i n : ℕ) → i ≤ n → between t list 0 n ≡ between t list 0 i ++ between t list i n
-  unfolding between
-  between-split i n h =
-      let e : n - 0 ≡ i + (n - i) = omega arith in
-      let f : i - 0 ≡ i = omega arith in
-      rw (e, f, counted-append 0 i (n - i), zero-add) (map-append (fieldAt t list) (countUp 0 i) (countUp i (n - i)))
-
-  between-last : (i : ℕ) → between t list 0 (i + 1) ≡ between t list 0 i ++ (fieldAt t list i ∷ [])
-  between-last i =
-      between-split i (i + 1) (omega arith)
-      ∙ ap (λ (l : List Field). between t list 0 i ++ l)
-      (between-more t list i (i + 1) (omega arith) ∙ ap (λ (l : List Field). fieldAt t list i ∷ l) (between-none t list (i + 1) (i + 1) (omega arith)))
-
-  -- a test of every field holds of each
-  pub each-field : (test : Field → Bool) (n i : ℕ) → allOf test (between t list 0 n) ≡ true → i < n → test (fieldAt t list i) ≡ true
-  unfolding between
-  each-field test n i h l = allOf-counted (fieldAt t list) test 0 (n - 0) h i (omega arith) (omega arith)
-
-  module _ (names : Field → List (List ℕ)) where
-    pub names-more : (i : ℕ) → namesTo names t list (i + 1) ≡ namesTo names t list i ++ names (fieldAt t list i)
-    unfolding flatMap
-    names-more i =
-        ap (flatMap names) (between-last i)
-        ∙ flatMap-append names (between t list 0 i) (fieldAt t list i ∷ [])
-        ∙ ap (λ (l : List (List ℕ)). namesTo names t list i ++ l) (append-nil (names (fieldAt t list i)))
-
-    pub names-fewer : (i n : ℕ) → i ≤ n → length (namesTo names t list i) ≤ length (namesTo names t list n)
-    names-fewer i n h =
-        let e : length (namesTo names t list n) ≡ length (namesTo names t list i) + length (flatMap names (between t list i n)) =
-        ap (λ (l : List Field). length (flatMap names l)) (between-split i n h)
-        ∙ ap length (flatMap-append names (between t list 0 i) (between t list i n))
-        ∙ length-append (namesTo names t list i) (flatMap names (between t list i n)) in
-        omega arith
-
-    pub names-none : namesTo names t list 0 ≡ []
-    unfolding flatMap
-    names-none = ap (flatMap names) (between-none t list 0 0 (omega arith))
-
--- ---- the maps
 
 or-itself : (a : Bool) → (a || (a || false)) ≡ a
 or-itself true = refl

@@ -1,25 +1,30 @@
--- A scan over the fields for the first with a fault, over any test; and what a field's list is.
+-- A scan over the fields for the first with a fault, over any test; and the lists of domains among them, which separate words show to be without one.
 use mathlib.Core.Path.{_≡_, refl, sym, ap, _∙_}
-use mathlib.Core.Bool.{Bool, true, false, cond, _||_}
-use mathlib.Core.List.{List, [], _∷_, _++_}
-use Prim.Native.Nat.{ℕ, _+_, _<_, _≤_}
+use mathlib.Core.Bool.{Bool, true, false, cond, not, _&&_, _||_}
+use mathlib.Core.List.{List, [], _++_}
+use Prim.Native.Nat.{ℕ, zero, suc, _+_, _-_, _<_, _≤_}
 use native.Mathlib.Omega.{arith}
 use lib.Dec.{eqb}
-use lib.ListN.{length, length-take, length-drop}
-use borrow.Author.Tests.{eqb-true, eq-eqb, ne-eqb}
-use Rattle.paper.specs.Common.{anyOf}
-use Rattle.paper.specs.Lists.{spaced, elementsIn}
+use lib.ListN.{length, replicate, length-take, length-drop}
+use borrow.Author.Tests.{eqb-true, not-true, not-false}
+use Rattle.paper.specs.Common.{allOf, anyOf, countUp}
+use Rattle.paper.specs.Lists.{spaced, elementsIn, elements}
 use Rattle.paper.specs.Page.{Field}
 use Rattle.paper.specs.Entries.{isAtOne, callContexts}
 use Rattle.paper.specs.Rules.{firstWith, repeats, subjectLists, objectLists, repeatsInList}
+use Rattle.laws.proofs.Tests.{both-left, both-right}
 use Rattle.file_fields.specs.Fields.{placeIn, lineIn, startIn, valueIn, fieldAt, between, wellSpaced}
 use Rattle.file_fields.specs.Values.{insideOf}
 use Rattle.file_fields.proofs.Between.{between-more, between-none}
 use Rattle.file_fields.proofs.Valued.{inside-elements, inside-spaced, inside-short}
 use Rattle.file_index.proofs.Names.{any-more}
-use Rattle.file_names.specs.Looking.{soughtAt}
-use Rattle.file_names.specs.declared.places.Sought.{Sought}
-use Rattle.file_names.specs.declared.places.Sought.the-variants.{Subject, Subjects, Objects, Functions, Nothing}
+use Rattle.file_words.specs.Looking.{soughtAt}
+use Rattle.file_words.specs.Words.{Numbers, wordBy, wordsBy, fieldWords, wordsIn, Worded, WordedSomehow}
+use Rattle.file_words.proofs.Worded.{words-of-field}
+use Rattle.file_words.specs.declared.places.Sought.{Sought}
+use Rattle.file_words.specs.declared.places.Sought.the-variants.{Subject, Subjects, Objects, Functions, Nothing}
+use Rattle.file_names.specs.Separate.{separate, isListed, listSeparate, listsSeparate}
+use Rattle.file_names.proofs.Apart.{separate-once}
 
 -- ---- the scan
 
@@ -54,58 +59,7 @@ module _ (t list v s : List ℕ) (i : ℕ) (q : v ≡ valueIn t list i) (g : s �
 
 -- ---- what is looked up at a place
 
--- lists of domains stand there
-abbrev isListed : Sought → Bool
-isListed Subject = false
-isListed Subjects = true
-isListed Objects = true
-isListed Functions = false
-isListed Nothing = false
-
 module _ (place : ℕ) where
-  pub either-first : (one other : ℕ) → place ≡ one → true ≡ anyOf (eqb place) (one ∷ other ∷ [])
-  unfolding anyOf
-  either-first one other h = rw (eq-eqb place one h) refl
-
-  pub either-second : (one other : ℕ) → (place ≡ one → ⊥) → eqb place other ≡ anyOf (eqb place) (one ∷ other ∷ [])
-  unfolding anyOf
-  either-second one other h = rw (ne-eqb place one h) (go (eqb place other))
-    where
-      go : (b : Bool) → b ≡ (b || false)
-      go true = refl
-      go false = refl
-
-  pub seeks-subject : place ≡ 9 → Subject ≡ soughtAt place
-  unfolding soughtAt
-  seeks-subject h = rw (eq-eqb place 9 h) refl
-
-  module _ (h : place ≡ 9 → ⊥) (a : Bool) (e : a ≡ anyOf (eqb place) (14 ∷ 15 ∷ [])) where
-    lists-subjects : anyOf (eqb place) subjectLists ≡ a
-    unfolding subjectLists
-    lists-subjects = sym e
-
-    pub seeks-subjects : a ≡ true → Subjects ≡ soughtAt place
-    unfolding soughtAt
-    seeks-subjects k = rw (ne-eqb place 9 h, lists-subjects, k) refl
-
-    module _ (k : a ≡ false) (b : Bool) (f : b ≡ anyOf (eqb place) (17 ∷ 23 ∷ [])) where
-      lists-objects : anyOf (eqb place) objectLists ≡ b
-      unfolding objectLists
-      lists-objects = sym f
-
-      pub seeks-objects : b ≡ true → Objects ≡ soughtAt place
-      unfolding soughtAt
-      seeks-objects l = rw (ne-eqb place 9 h, lists-subjects, k, lists-objects, l) refl
-
-      module _ (l : b ≡ false) (d : Bool) (g : d ≡ anyOf (eqb place) callContexts) where
-        pub seeks-functions : d ≡ true → Functions ≡ soughtAt place
-        unfolding soughtAt
-        seeks-functions m = rw (ne-eqb place 9 h, lists-subjects, k, lists-objects, l, ← g, m) refl
-
-        pub seeks-nothing : d ≡ false → Nothing ≡ soughtAt place
-        unfolding soughtAt
-        seeks-nothing m = rw (ne-eqb place 9 h, lists-subjects, k, lists-objects, l, ← g, m) refl
-
   no-list-of-subject : place ≡ 9 → (anyOf (eqb place) subjectLists || anyOf (eqb place) objectLists) ≡ false
   unfolding anyOf subjectLists objectLists
   no-list-of-subject h = rw h refl
@@ -122,33 +76,109 @@ module _ (place : ℕ) where
       go false e false false true p q = rw (p, q) refl
       go false e false false false p q = rw (p, q) refl
 
+-- the field is a list of domains
+abbrev listed : List ℕ → ℕ → Bool
+listed list i = isListed (soughtAt (placeIn list i))
+
+module _ (t list : List ℕ) (i : ℕ) where
+  repeats-listed : repeatsInList (fieldAt t list i) ≡ (listed list i && repeats [] (elements (valueIn t list i)))
+  unfolding repeatsInList isAtOne fieldAt
+  repeats-listed = rw (in-lists (placeIn list i)) refl
+
+-- ---- the words of one field
+
+module _ (list words starts : List ℕ) (i p : ℕ) (k : Sought) (e : p ≡ placeIn list i) (f : k ≡ soughtAt p) where
+  separate-at : (b : Bool) → isListed k ≡ b → cond b (separate (replicate 8 0) (wordsIn words starts i)) true ≡ listSeparate list words starts i
+  unfolding listSeparate
+  separate-at b h = rw (← e, ← f, h) refl
+
+  module _ (ws : List ℕ) (r : Bool) (q : ws ≡ wordsIn words starts i) (g : r ≡ separate (replicate 8 0) ws) where
+    pub of-subjects : k ≡ Subjects → r ≡ listSeparate list words starts i
+    of-subjects h = rw (g, q) (separate-at true (ap isListed h))
+
+    pub of-objects : k ≡ Objects → r ≡ listSeparate list words starts i
+    of-objects h = rw (g, q) (separate-at true (ap isListed h))
+
+  pub of-subject : k ≡ Subject → true ≡ listSeparate list words starts i
+  of-subject h = separate-at false (ap isListed h)
+
+  pub of-functions : k ≡ Functions → true ≡ listSeparate list words starts i
+  of-functions h = separate-at false (ap isListed h)
+
+  pub of-nothing : k ≡ Nothing → true ≡ listSeparate list words starts i
+  of-nothing h = separate-at false (ap isListed h)
+
+-- ---- the words of every field
+
+module _ (list words starts : List ℕ) (i n : ℕ) where
+  module _ (whole : Bool) (inv : listsSeparate list words starts i n ≡ whole) where
+    module _ (h : i < n) (b : Bool) (e : b ≡ listSeparate list words starts i) where
+      lists-step : (b && listsSeparate list words starts (i + 1) n) ≡ whole
+      unfolding listsSeparate countUp allOf
+      lists-step = let d : n - i ≡ suc (n - (i + 1)) = omega arith in rw e (rw d at inv)
+
+      pub lists-fail : not b ≡ true → false ≡ whole
+      lists-fail l = rw (not-true b l) at lists-step
+
+      pub lists-on : not b ≡ false → listsSeparate list words starts (i + 1) n ≡ whole
+      lists-on l = rw (not-false b l) at lists-step
+
+    pub lists-done : n ≤ i → true ≡ whole
+    unfolding listsSeparate countUp allOf
+    lists-done h = let d : n - i ≡ 0 = omega arith in rw d at inv
+
 -- ---- a name twice in a list
 
-module _ (t list : List ℕ) (i p : ℕ) (k : Sought) (e : p ≡ placeIn list i) (f : k ≡ soughtAt p) where
-  list-here : isAtOne (subjectLists ++ objectLists) (fieldAt t list i) ≡ isListed k
-  unfolding isAtOne fieldAt
-  list-here = rw (← e, f) (in-lists p)
+pub somehow : (k : Numbers) (t list words starts : List ℕ) (n : ℕ) → Worded k t list n words starts → WordedSomehow t list n words starts
+somehow k t list words starts n w = record { numbers = k; worded = w }
 
-  module _ (v s : List ℕ) (r : Bool) (q : v ≡ valueIn t list i) (g : s ≡ insideOf v) (w : r ≡ repeats [] (elementsIn s)) where
-    of-list : isListed k ≡ true → r ≡ repeatsInList (fieldAt t list i)
-    unfolding repeatsInList fieldAt
-    of-list h = rw (list-here, h, ← q, w, g, inside-elements v) refl
+-- the words of a list of domains are the numbers of its names, by one numbering or another
+numbered : (n : Numbers) (k : Sought) (v : List ℕ) (set : List ℕ) → length set ≡ 8 → isListed k ≡ true → separate set (wordsBy n k v) ≡ true → repeats [] (elements v) ≡ false
+unfolding wordsBy
+numbered n Subject v set l h s = absurd (let z : _≡_ {A = ℕ} 0 1 = cc in omega arith)
+numbered n Subjects v set l h s = separate-once (wordBy false (n .subject)) (elements v) set l s
+numbered n Objects v set l h s = separate-once (wordBy false (n .object)) (elements v) set l s
+numbered n Functions v set l h s = absurd (let z : _≡_ {A = ℕ} 0 1 = cc in omega arith)
+numbered n Nothing v set l h s = absurd (let z : _≡_ {A = ℕ} 0 1 = cc in omega arith)
 
-    pub of-subjects : k ≡ Subjects → r ≡ repeatsInList (fieldAt t list i)
-    of-subjects h = of-list (ap isListed h)
+module _ (t list words starts : List ℕ) (n : ℕ) (worded : WordedSomehow t list n words starts) where
+  module _ (i : ℕ) (h : i < n) where
+    its-words : wordsIn words starts i ≡ wordsBy (worded .numbers) (soughtAt (placeIn list i)) (valueIn t list i)
+    unfolding fieldWords fieldAt
+    its-words = words-of-field (worded .numbers) t list n words starts (worded .worded) i h
 
-    pub of-objects : k ≡ Objects → r ≡ repeatsInList (fieldAt t list i)
-    of-objects h = of-list (ap isListed h)
+    pub starts-room : i + 1 < length starts
+    starts-room = omega (arith, worded .worded .room)
 
-  no-list : isListed k ≡ false → false ≡ repeatsInList (fieldAt t list i)
-  unfolding repeatsInList
-  no-list h = rw (list-here, h) refl
+    module _ (b : Bool) (e : b ≡ listSeparate list words starts i) where
+      pub listed-once : b ≡ true → false ≡ repeatsInList (fieldAt t list i)
+      unfolding listSeparate
+      listed-once d = sym (repeats-listed t list i ∙ go (listed list i) refl (rw its-words at (sym e ∙ d)))
+        where
+          go : (l : Bool) → listed list i ≡ l → cond l (separate (replicate 8 0) (wordsBy (worded .numbers) (soughtAt (placeIn list i)) (valueIn t list i))) true ≡ true
+              → (l && repeats [] (elements (valueIn t list i))) ≡ false
+          go true q s = numbered (worded .numbers) (soughtAt (placeIn list i)) (valueIn t list i) (replicate 8 0) refl q s
+          go false q s = refl
 
-  pub of-subject : k ≡ Subject → false ≡ repeatsInList (fieldAt t list i)
-  of-subject h = no-list (ap isListed h)
+      module _ (v s : List ℕ) (r : Bool) (q : v ≡ valueIn t list i) (g : s ≡ insideOf v) (w : r ≡ repeats [] (elementsIn s)) where
+        pub listed-told : b ≡ false → r ≡ repeatsInList (fieldAt t list i)
+        unfolding listSeparate
+        listed-told d = sym (repeats-listed t list i ∙ go (listed list i) (sym e ∙ d) ∙ sym (w ∙ rw (g, inside-elements v, q) refl))
+          where
+            go : (l : Bool) → cond l (separate (replicate 8 0) (wordsIn words starts i)) true ≡ false
+                → (l && repeats [] (elements (valueIn t list i))) ≡ repeats [] (elements (valueIn t list i))
+            go true s = refl
+            go false s = absurd (let z : _≡_ {A = ℕ} 0 1 = cc in omega arith)
 
-  pub of-functions : k ≡ Functions → false ≡ repeatsInList (fieldAt t list i)
-  of-functions h = no-list (ap isListed h)
+  -- where the words of every list are separate, no list has a name twice
+  none-from : (k i : ℕ) → i + k ≡ n → allOf (listSeparate list words starts) (countUp i k) ≡ true → firstWith repeatsInList (between t list i n) ≡ 0
+  unfolding countUp allOf firstWith
+  none-from zero i e h = rw (between-none t list i n (omega arith)) refl
+  none-from (suc k) i e h =
+      let l : i < n = omega arith in
+      rw (between-more t list i n l, ← listed-once i l (listSeparate list words starts i) refl (both-left _ _ h))
+      (none-from k (i + 1) (omega arith) (both-right (listSeparate list words starts i) _ h))
 
-  pub of-nothing : k ≡ Nothing → false ≡ repeatsInList (fieldAt t list i)
-  of-nothing h = no-list (ap isListed h)
+  pub lists-once : (b : Bool) → b ≡ listsSeparate list words starts 0 n → b ≡ true → 0 ≡ firstWith repeatsInList (between t list 0 n)
+  unfolding listsSeparate
+  lists-once b e h = sym (none-from (n - 0) 0 (omega arith) (sym e ∙ h))

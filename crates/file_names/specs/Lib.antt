@@ -1,3 +1,4 @@
 pub mod Naming
-pub mod Looking
+pub mod Separate
+pub mod Below
 pub mod Mapping

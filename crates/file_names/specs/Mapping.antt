@@ -4,7 +4,7 @@ use mathlib.Core.Path.{_≡_}
 use mathlib.Core.List.{List, []}
 use mathlib.Core.Bool.{false}
 use lib.ListN.{length}
-use Rattle.paper.specs.Limits.{mostDomains}
+use Rattle.paper.specs.Limits.{mostDomains, mostMembers}
 use Rattle.paper.specs.Text.{noLine}
 use Rattle.paper.specs.Listing.{objectName, subjectName, subjectMembers}
 use Rattle.paper.specs.Page.{Field}
@@ -25,6 +25,7 @@ pub record MapsTo (t : List ℕ) (fs : List Field) (objectIx subjectIx functionI
   pub maps : repeated domainNamed [] fs ≡ noLine → r .twice ≡ noLine → Maps t fs objectIx subjectIx functionIx (r .objects) (r .subjects) (r .functions)
   pub few-objects : r .objects ≤ mostDomains
   pub few-subjects : r .subjects ≤ mostDomains
+  pub few-functions : r .functions ≤ mostMembers
 
 -- no name stands in a map twice
 pub record Distinct (fs : List Field) : Type 0 where

@@ -10,7 +10,7 @@ use Rattle.paper.specs.Page.{Field}
 use Rattle.paper.specs.Entries.{isAtOne}
 use Rattle.paper.specs.Rules.{repeats, repeated, membersNamed}
 use Rattle.laws_page.specs.Right.{isNumbered}
-use Rattle.file_fields.specs.Fields.{fieldSize, between, wellSpaced}
+use Rattle.file_fields.specs.Fields.{fieldSize, between, bytesTo, wellSpaced}
 use Rattle.file_index.specs.Buckets.{Index}
 use Rattle.file_names.specs.declared.indexes.Naming.{Naming}
 use Rattle.file_names.specs.declared.indexes.Naming.the-variants.{Domains, Members}
@@ -18,12 +18,14 @@ use Rattle.file_names.specs.declared.indexes.Entered.{Entered}
 use Rattle.file_names.specs.declared.indexes.Entered.the-variants.{Now, Twice}
 use Rattle.file_names.specs.declared.indexes.Indexed.{Indexed}
 
--- the list has n fields of a text that is not too long: each has a line, and its lists are spaced as lists are
+-- the list has n fields of a text that is not too long: each has a line, and its lists are spaced as lists are;
+-- their values have together no more bytes than the text
 pub record Sound (t list : List ℕ) (n : ℕ) : Type 0 where
   pub room : fieldSize * n ≤ length list
   pub spaced : allOf wellSpaced (between t list 0 n) ≡ true
   pub numbered : allOf isNumbered (between t list 0 n) ≡ true
   pub small : length t ≤ textBytes
+  pub fits : bytesTo list n ≤ length t
 
 -- the domain that a field names, where it stands at one of two places
 unfoldable pub namedAt : ℕ → ℕ → Field → List (List ℕ)

@@ -1,10 +1,10 @@
 // The names of a map put into an index one after the other, up to the first that is there already.
-use crate::places::is_either;
 use file_fields::line_of;
 use file_fields::place_of;
 use file_fields::start_of;
 use file_fields::value_of;
 use file_fields::values::inside;
+use file_words::places::is_either;
 use text_lines::NO_LINE;
 use text_lists::Element;
 ghost use mathlib.Core.Path.{_≡_};

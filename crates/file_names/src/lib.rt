@@ -1,7 +1,6 @@
 // 7 and 8: names that stand twice, names that no map has, and the indexes of the maps that names are looked up in.
 pub mod indexes;
 pub mod lists;
-pub mod places;
 pub mod unknown;
 
 use crate::indexes::index_domains;
@@ -10,18 +9,21 @@ use crate::lists::lists_line;
 use file_fields::earlier;
 use file_index::MULTIPLIER;
 use file_index::layout;
+use file_words::look_up;
 use paper::limit;
 use text_keys::rows;
 ghost use mathlib.Core.Path.{_≡_};
 ghost use mathlib.Core.List.{[]};
-ghost use Prim.Native.Nat.{_+_, _*_};
+ghost use Prim.Native.Nat.{_+_, _*_, _<_, _≤_};
 ghost use lib.ListN.{length};
 ghost use Rattle.paper.specs.Limits.{mostDomains, mostMembers};
 ghost use Rattle.paper.specs.Text.{noLine};
 ghost use Rattle.paper.specs.Listing.{objectMembers};
-ghost use Rattle.paper.specs.Rules.{repeated, domainNamed, membersNamed, namedTwice, overLimit};
-ghost use Rattle.file_fields.specs.Fields.{between};
+ghost use Rattle.paper.specs.Rules.{firstWith, repeated, domainNamed, membersNamed, repeatsInList, namedTwice, overLimit};
+ghost use Rattle.file_fields.specs.Fields.{between, bytesTo};
+ghost use Rattle.file_index.specs.Words.{namesAt, nameSize};
 ghost use Rattle.file_index.specs.Maps.{Maps};
+ghost use Rattle.file_words.specs.Words.{numbersBy, numbersOf, Worded};
 ghost use Rattle.file_names.specs.Naming.{Sound};
 ghost use Rattle.file_names.specs.Mapping.{Fresh, MapsTo, Distinct};
 
@@ -99,7 +101,44 @@ fn index_maps(
     }
 }
 
-// 7 over the whole file, and the indexes of its maps.
+// The words of the names that entries have, and the line of the first list that has one twice.
+fn word_lists(
+    t: &[u8],
+    list: &[usize],
+    n: usize,
+    objects_ix: &[usize],
+    subjects_ix: &[usize],
+    functions_ix: &[usize],
+    maps: Names,
+    words: &mut [u16],
+    starts: &mut [usize],
+) -> usize
+    requires { ⌜ Sound (now t) (now list) n ⌝ }
+    requires { ⌜ (bytesTo (now list) n ≤ length (now words)) × (n < length (now starts)) ⌝ }
+    requires { ⌜ (namesAt + nameSize * maps .objects ≤ length (now «objects_ix»)) × (maps .objects ≤ mostDomains) ⌝ }
+    requires { ⌜ (namesAt + nameSize * maps .subjects ≤ length (now «subjects_ix»)) × (maps .subjects ≤ mostDomains) ⌝ }
+    requires { ⌜ (namesAt + nameSize * maps .functions ≤ length (now «functions_ix»)) × (maps .functions ≤ mostMembers) ⌝ }
+    ensures { λ r. ⌜ r ≡ firstWith repeatsInList (between (now (t .entry)) (now (list .entry)) 0 n) ⌝ }
+    ensures { λ _. ⌜ Worded (numbersBy (now (t .entry)) (now («objects_ix» .entry)) (maps .objects) (now («subjects_ix» .entry)) (maps .subjects)
+        (now («functions_ix» .entry)) (maps .functions)) (now (t .entry)) (now (list .entry)) n (now (words .exit)) (now (starts .exit)) ⌝ }
+{
+    look_up(
+        t,
+        list,
+        n,
+        objects_ix,
+        maps.objects,
+        subjects_ix,
+        maps.subjects,
+        functions_ix,
+        maps.functions,
+        words,
+        starts,
+    );
+    lists_line(t, list, n, words, starts)
+}
+
+// 7 over the whole file, and the indexes of its maps; where nothing stands twice, the words of its names too.
 pub fn index_names(
     t: &[u8],
     list: &[usize],
@@ -107,8 +146,11 @@ pub fn index_names(
     objects_ix: &mut [usize],
     subjects_ix: &mut [usize],
     functions_ix: &mut [usize],
+    words: &mut [u16],
+    starts: &mut [usize],
 ) -> Names
     requires { ⌜ Sound (now t) (now list) n ⌝ }
+    requires { ⌜ (bytesTo (now list) n ≤ length (now words)) × (n < length (now starts)) ⌝ }
     requires { ⌜ overLimit (between (now t) (now list) 0 n) ≡ noLine ⌝ }
     requires { ⌜ Fresh (now t) (now «objects_ix») mostDomains ⌝ }
     requires { ⌜ Fresh (now t) (now «subjects_ix») mostDomains ⌝ }
@@ -117,18 +159,22 @@ pub fn index_names(
     ensures { λ r. ⌜ (r .twice ≡ 0 → Maps (now (t .entry)) (between (now (t .entry)) (now (list .entry)) 0 n) (now («objects_ix» .exit))
         (now («subjects_ix» .exit)) (now («functions_ix» .exit)) (r .objects) (r .subjects) (r .functions)) ⌝ }
     ensures { λ r. ⌜ (r .twice ≡ 0 → Distinct (between (now (t .entry)) (now (list .entry)) 0 n)) ⌝ }
+    ensures { λ r. ⌜ (r .twice ≡ 0 → Worded (numbersOf (between (now (t .entry)) (now (list .entry)) 0 n)) (now (t .entry)) (now (list .entry)) n
+        (now (words .exit)) (now (starts .exit))) ⌝ }
 {
     let domains = domains_line(t, list, n);
     let objects = objects_line(t, list, n);
     let maps = index_maps(t, list, n, objects_ix, subjects_ix, functions_ix);
-    let lists = lists_line(
+    let lists = word_lists(
         t,
         list,
         n,
         objects_ix,
-        maps.objects,
         subjects_ix,
-        maps.subjects,
+        functions_ix,
+        maps,
+        words,
+        starts,
     );
     Names {
         objects: maps.objects,

@@ -1,109 +1,103 @@
 // 7 for lists in an entry: a name that stands in one list twice.
-use crate::places::Sought;
-use crate::places::sought_at;
 use file_fields::line_of;
 use file_fields::place_of;
 use file_fields::value_of;
 use file_fields::values::inside;
-use file_index::number_in;
+use file_words::places::Sought;
+use file_words::places::sought_at;
+use file_words::words_of;
 use paper::Operation;
 use paper::limit;
 use table::layout;
 use text_lines::NO_LINE;
-use text_lists::Element;
 ghost use mathlib.Core.Path.{_≡_};
 ghost use mathlib.Core.Bool.{true, false};
-ghost use mathlib.Core.List.{[]};
-ghost use Prim.Native.Nat.{_+_, _*_, _≤_};
-ghost use lib.ListN.{length};
+ghost use Prim.Native.Nat.{_+_, _*_, _<_, _≤_};
+ghost use lib.ListN.{length, replicate};
 ghost use Rattle.paper.specs.Limits.{textBytes};
-ghost use Rattle.paper.specs.Lists.{spaced, elementsIn};
-ghost use Rattle.paper.specs.Rules.{firstWith, repeats, repeatsInList};
+ghost use Rattle.paper.specs.Table.{setSize};
+ghost use Rattle.paper.specs.Rules.{firstWith, repeatsInList};
 ghost use Rattle.file_fields.specs.Fields.{fieldSize, fieldAt, between, wellSpaced};
-ghost use Rattle.file_index.specs.Words.{namesAt, nameSize};
+ghost use Rattle.file_words.specs.Words.{WordedSomehow};
 ghost use Rattle.file_names.specs.Naming.{Sound};
+ghost use Rattle.file_names.specs.Separate.{separate, listSeparate, listsSeparate};
 
-// No name stands in the list twice, for no two have one number. Where two have, or one has none, nothing is said.
-pub fn distinct(t: &[u8], ix: &[usize], n: usize, s: &[u8]) -> bool
-    requires { ⌜ spaced 0 (now s) ≡ true ⌝ }
-    requires { ⌜ namesAt + nameSize * n ≤ length (now ix) ⌝ }
-    ensures { λ r. ⌜ (r ≡ true → repeats [] (elementsIn (now (s .entry))) ≡ false) ⌝ }
+// The words are numbers of domains, and no two are the same.
+fn distinct(words: &[u16]) -> bool
+    ensures { λ r. ⌜ r ≡ separate (replicate setSize 0) (now (words .entry)) ⌝ }
 {
     let mut seen = [0u16; layout::SET_SIZE];
-    let mut at = text_lists::first_element(s);
-    loop {
-        match text_lists::element_at(s, at) {
-            Element::NoneLeft => return true,
-            Element::Found { end, next } => {
-                let k = number_in(t, ix, n, &s[at..end]);
-                if limit::DOMAINS <= k {
-                    return false;
-                }
-                if Operation::contains(&seen, k) {
-                    return false;
-                }
-                Operation::insert(&mut seen, k);
-                at = next;
-            }
+    let mut i: usize = 0;
+    while i < words.len() {
+        let k = words[i] as usize;
+        if limit::DOMAINS <= k {
+            return false;
         }
+        if Operation::contains(&seen, k) {
+            return false;
+        }
+        Operation::insert(&mut seen, k);
+        i += 1;
     }
+    true
 }
 
-// A name stands in the list twice: the index tells most lists quickly.
-fn has_twice(t: &[u8], ix: &[usize], n: usize, s: &[u8]) -> bool
-    requires { ⌜ spaced 0 (now s) ≡ true ⌝ }
-    requires { ⌜ length (now s) ≤ textBytes ⌝ }
-    requires { ⌜ namesAt + nameSize * n ≤ length (now ix) ⌝ }
-    ensures { λ r. ⌜ r ≡ repeats [] (elementsIn (now (s .entry))) ⌝ }
-{
-    if distinct(t, ix, n, s) {
-        return false;
-    }
-    text_repeats::names_twice(s)
-}
-
-fn repeats_in_list(
-    t: &[u8],
-    list: &[usize],
-    i: usize,
-    objects_ix: &[usize],
-    objects: usize,
-    subjects_ix: &[usize],
-    subjects: usize,
-) -> bool
+// The same of the words of field i, where it is a list of domains.
+fn list_distinct(list: &[usize], words: &[u16], starts: &[usize], i: usize) -> bool
     requires { ⌜ fieldSize * (i + 1) ≤ length (now list) ⌝ }
-    requires { ⌜ length (now t) ≤ textBytes ⌝ }
-    requires { ⌜ wellSpaced (fieldAt (now t) (now list) i) ≡ true ⌝ }
-    requires { ⌜ (namesAt + nameSize * objects ≤ length (now «objects_ix»)) × (namesAt + nameSize * subjects ≤ length (now «subjects_ix»)) ⌝ }
-    ensures { λ r. ⌜ r ≡ repeatsInList (fieldAt (now (t .entry)) (now (list .entry)) i) ⌝ }
+    requires { ⌜ i + 1 < length (now starts) ⌝ }
+    ensures { λ r. ⌜ r ≡ listSeparate (now (list .entry)) (now (words .entry)) (now (starts .entry)) i ⌝ }
 {
-    let s = inside(value_of(t, list, i));
     match sought_at(place_of(list, i)) {
-        Sought::Subjects => has_twice(t, subjects_ix, subjects, s),
-        Sought::Objects => has_twice(t, objects_ix, objects, s),
-        Sought::Subject => false,
-        Sought::Functions => false,
-        Sought::Nothing => false,
+        Sought::Subjects => distinct(words_of(words, starts, i)),
+        Sought::Objects => distinct(words_of(words, starts, i)),
+        Sought::Subject => true,
+        Sought::Functions => true,
+        Sought::Nothing => true,
     }
 }
 
-// The line of the first list that has a name twice. Of the indexes nothing is asked but room: they only make it quick.
-pub fn lists_line(
-    t: &[u8],
-    list: &[usize],
-    n: usize,
-    objects_ix: &[usize],
-    objects: usize,
-    subjects_ix: &[usize],
-    subjects: usize,
-) -> usize
-    requires { ⌜ Sound (now t) (now list) n ⌝ }
-    requires { ⌜ (namesAt + nameSize * objects ≤ length (now «objects_ix»)) × (namesAt + nameSize * subjects ≤ length (now «subjects_ix»)) ⌝ }
-    ensures { λ r. ⌜ r ≡ firstWith repeatsInList (between (now (t .entry)) (now (list .entry)) 0 n) ⌝ }
+// The same of every field: so most files are told quickly.
+fn lists_distinct(list: &[usize], n: usize, words: &[u16], starts: &[usize]) -> bool
+    requires { ⌜ (fieldSize * n ≤ length (now list)) × (n < length (now starts)) ⌝ }
+    ensures { λ r. ⌜ r ≡ listsSeparate (now (list .entry)) (now (words .entry)) (now (starts .entry)) 0 n ⌝ }
 {
     let mut i: usize = 0;
     while i < n {
-        if repeats_in_list(t, list, i, objects_ix, objects, subjects_ix, subjects) {
+        if !list_distinct(list, words, starts, i) {
+            return false;
+        }
+        i += 1;
+    }
+    true
+}
+
+// A name stands in the list of field i twice. Where two words are the same, or one is no domain's, the names themselves tell.
+fn has_twice(t: &[u8], list: &[usize], n: usize, words: &[u16], starts: &[usize], i: usize) -> bool
+    requires { ⌜ (fieldSize * n ≤ length (now list)) × (i < n) ⌝ }
+    requires { ⌜ length (now t) ≤ textBytes ⌝ }
+    requires { ⌜ wellSpaced (fieldAt (now t) (now list) i) ≡ true ⌝ }
+    requires { ⌜ WordedSomehow (now t) (now list) n (now words) (now starts) ⌝ }
+    ensures { λ r. ⌜ r ≡ repeatsInList (fieldAt (now (t .entry)) (now (list .entry)) i) ⌝ }
+{
+    if list_distinct(list, words, starts, i) {
+        return false;
+    }
+    text_repeats::names_twice(inside(value_of(t, list, i)))
+}
+
+// The line of the first list that has a name twice.
+pub fn lists_line(t: &[u8], list: &[usize], n: usize, words: &[u16], starts: &[usize]) -> usize
+    requires { ⌜ Sound (now t) (now list) n ⌝ }
+    requires { ⌜ WordedSomehow (now t) (now list) n (now words) (now starts) ⌝ }
+    ensures { λ r. ⌜ r ≡ firstWith repeatsInList (between (now (t .entry)) (now (list .entry)) 0 n) ⌝ }
+{
+    if lists_distinct(list, n, words, starts) {
+        return NO_LINE;
+    }
+    let mut i: usize = 0;
+    while i < n {
+        if has_twice(t, list, n, words, starts, i) {
             return line_of(list, i);
         }
         i += 1;

@@ -1,26 +1,30 @@
 -- What the rules and the table ask of the fields of a text, from what its page and the rules before them give.
 use mathlib.Core.Path.{_≡_, refl, sym, _∙_}
 use mathlib.Core.List.{List}
-use Prim.Native.Nat.{ℕ, _+_, _*_, _≤_}
+use Prim.Native.Nat.{ℕ, _+_, _*_, _<_, _≤_}
 use native.Mathlib.Omega.{arith}
 use lib.ListN.{length, set, replicate, length-set, length-replicate}
 use Rattle.paper.specs.Limits.{textBytes, mostEntries, mostDomains, mostMembers}
 use Rattle.paper.specs.Page.{Field}
 use Rattle.paper.specs.Entries.{entriesOf}
 use Rattle.paper.specs.Rules.{overLimit, namedTwice, unknownName, unboundVariable, twinPrincipal}
-use Rattle.file_fields.specs.Fields.{fieldSize, between}
+use Rattle.file_fields.specs.Fields.{fieldSize, between, bytesTo}
+use Rattle.file_fields.specs.Listed.{mostFields}
 use Rattle.file_index.specs.Words.{multiplierAt, namesAt, nameSize}
 use Rattle.file_index.specs.Maps.{Maps}
 use Rattle.file_index.proofs.Known.{index-cleared}
+use Rattle.file_words.specs.Words.{numbersOf, Worded}
 use Rattle.file_names.specs.Naming.{Sound}
 use Rattle.file_names.specs.Mapping.{Fresh, Distinct}
 use Rattle.file_names.specs.declared.Names.{Names}
+use Rattle.file_table.specs.Ready.{OfObjects, OfSubjects, OfFunctions}
 use Rattle.file_table.proofs.Whole.{entries-few}
 use Rattle.file_read.specs.Readable.{Readable}
 use Rattle.file_read.proofs.Low.{over-low, twice-low, unknown-low, unbound-low, twins-low}
 
-pub sound : (t list : List ℕ) (n : ℕ) → fieldSize * n ≤ length list → length t ≤ textBytes → Readable (between t list 0 n) → Sound t list n
-sound t list n room small fs = record { room = room; spaced = fs .well-spaced; numbered = fs .numbered; small = small }
+pub sound : (t list : List ℕ) (n : ℕ) → fieldSize * n ≤ length list → bytesTo list n ≤ length t → length t ≤ textBytes
+    → Readable (between t list 0 n) → Sound t list n
+sound t list n room fits small fs = record { room = room; spaced = fs .well-spaced; numbered = fs .numbered; small = small; fits = fits }
 
 -- an index with no name in it
 module _ (t : List ℕ) where
@@ -32,6 +36,13 @@ module _ (t : List ℕ) where
 
   pub fresh-members : (m : ℕ) → Fresh t (set (replicate 8193 0) multiplierAt m) mostMembers
   fresh-members m = fresh mostMembers 8193 (omega arith) m
+
+-- room for the words of its names, and for where each field's start
+pub words-room : (t list : List ℕ) (n : ℕ) → Sound t list n → bytesTo list n ≤ length (replicate {A = ℕ} 65536 0)
+words-room t list n s = rw (length-replicate {A = ℕ} 65536 0) (omega (arith, s .fits, s .small))
+
+pub starts-room : (n : ℕ) → n ≤ mostFields → n < length (replicate {A = ℕ} 8193 0)
+starts-room n h = rw (length-replicate {A = ℕ} 8193 0) (omega arith)
 
 -- ---- a line that a rule names is one that a text can have
 
@@ -62,10 +73,20 @@ no-over fs over e z = sym e ∙ z
 -- ---- 7 names no line
 
 module _ (fs : List Field) (names : Names) (once : names .twice ≡ 0) where
-  pub maps-known : (t objectIx subjectIx functionIx : List ℕ)
-      → (names .twice ≡ 0 → Maps t fs objectIx subjectIx functionIx (names .objects) (names .subjects) (names .functions))
-      → Maps t fs objectIx subjectIx functionIx (names .objects) (names .subjects) (names .functions)
-  maps-known t objectIx subjectIx functionIx known = known once
+  pub words-known : (t list words starts : List ℕ) (n : ℕ) → (names .twice ≡ 0 → Worded (numbersOf fs) t list n words starts) → Worded (numbersOf fs) t list n words starts
+  words-known t list words starts n known = known once
 
-  pub names-distinct : (names .twice ≡ 0 → Distinct fs) → Distinct fs
-  names-distinct apart = apart once
+  module _ (t objectIx subjectIx functionIx : List ℕ)
+      (known : names .twice ≡ 0 → Maps t fs objectIx subjectIx functionIx (names .objects) (names .subjects) (names .functions)) where
+    pub objects-known : (names .twice ≡ 0 → Distinct fs) → OfObjects (names .objects) fs
+    objects-known apart = record {
+      counted = known once .of-objects .index .count;
+      few = known once .of-objects .few;
+      apart = apart once .objects;
+    }
+
+    pub subjects-known : (names .twice ≡ 0 → Distinct fs) → OfSubjects t subjectIx (names .subjects) fs
+    subjects-known apart = record { index = known once .of-subjects; apart = apart once .subjects }
+
+    pub functions-known : OfFunctions (names .functions) fs
+    functions-known = record { counted = known once .of-functions .index .count; few = known once .of-functions .few }

@@ -49,11 +49,11 @@ module _ (t list : List ℕ) (r : Found) (e : foundIn t list r ≡ textPage t) w
     unfolding fileOf
     file-held = rw (← listed) refl
 
-    fields-room : Holds list r → fieldSize * n ≤ length list
-    fields-room h = rw q at h
+    fields-held : Holds t list r → Holds t list (Listed n)
+    fields-held h = rw q at h
 
-    pub fields-few : Holds list r → length list ≡ fieldSize * mostFields → n ≤ mostFields
-    fields-few h e = omega (arith, fields-room h)
+    pub fields-few : Holds t list r → length list ≡ fieldSize * mostFields → n ≤ mostFields
+    fields-few h e = omega (arith, fields-held h .0)
 
     fields-short : length t ≤ textBytes
     fields-short = text-short t (between t list 0 n) listed
@@ -61,8 +61,8 @@ module _ (t list : List ℕ) (r : Found) (e : foundIn t list r ≡ textPage t) w
     pub fields-readable : Readable (between t list 0 n)
     fields-readable = text-readable t (between t list 0 n) listed
 
-    pub fields-sound : Holds list r → Sound t list n
-    fields-sound h = sound t list n (fields-room h) fields-short fields-readable
+    pub fields-sound : Holds t list r → Sound t list n
+    fields-sound h = sound t list n (fields-held h .0) (fields-held h .1) fields-short fields-readable
 
     pub fields-answer : (s : Reading) → s ≡ readingOf (ruled (between t list 0 n)) → s ≡ readingOf (fileOf t)
     fields-answer s f = text-read t (between t list 0 n) s listed f

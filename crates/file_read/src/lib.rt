@@ -12,6 +12,8 @@ use file_names::index_names;
 use file_names::unknown::unknown_line;
 use file_table::set_words;
 use file_table::write_table;
+use file_words::STARTS;
+use file_words::WORDS;
 use paper::Reading;
 use paper::limit;
 use paper::refusal;
@@ -26,9 +28,9 @@ ghost use Rattle.paper.specs.Rules.{overLimit, ruled};
 ghost use Rattle.paper.specs.Promises.{fileOf, readingOf, wordsRead, readAnswer, readLeaves};
 ghost use Rattle.file_fields.specs.Fields.{between};
 ghost use Rattle.file_fields.specs.Listed.{mostFields};
-ghost use Rattle.file_index.specs.Maps.{Maps};
+ghost use Rattle.file_words.specs.Words.{numbersOf, Worded};
+ghost use Rattle.file_table.specs.Ready.{OfObjects, OfSubjects, OfFunctions};
 ghost use Rattle.file_names.specs.Naming.{Sound};
-ghost use Rattle.file_names.specs.Mapping.{Distinct};
 ghost use Rattle.file_read.specs.Readable.{Readable};
 ghost use Rattle.file_read.specs.Ruled.{namesRuled};
 
@@ -45,23 +47,25 @@ fn refused(number: u16, line: usize) -> Reading
     }
 }
 
-// 8, 10 and 11, and then the table, of a file whose names are indexed.
+// 8, 10 and 11, and then the table, of a file whose names are numbered.
 fn read_named(
     t: &[u8],
     list: &[usize],
     n: usize,
-    objects_ix: &[usize],
     subjects_ix: &[usize],
-    functions_ix: &[usize],
     names: Names,
+    words: &[u16],
+    starts: &[usize],
     table: &mut [u16],
 ) -> Reading
     requires { ⌜ Sound (now t) (now list) n ⌝ }
     requires { ⌜ n ≤ mostFields ⌝ }
     requires { ⌜ Readable (between (now t) (now list) 0 n) ⌝ }
     requires { ⌜ overLimit (between (now t) (now list) 0 n) ≡ 0 ⌝ }
-    requires { ⌜ Distinct (between (now t) (now list) 0 n) ⌝ }
-    requires { ⌜ Maps (now t) (between (now t) (now list) 0 n) (now «objects_ix») (now «subjects_ix») (now «functions_ix») (names .objects) (names .subjects) (names .functions) ⌝ }
+    requires { ⌜ OfObjects (names .objects) (between (now t) (now list) 0 n)
+        × OfSubjects (now t) (now «subjects_ix») (names .subjects) (between (now t) (now list) 0 n)
+        × OfFunctions (names .functions) (between (now t) (now list) 0 n) ⌝ }
+    requires { ⌜ Worded (numbersOf (between (now t) (now list) 0 n)) (now t) (now list) n (now words) (now starts) ⌝ }
     requires { ⌜ take tableWords (now table) ≡ replicate tableWords 0 ⌝ }
     requires { ⌜ tableWords ≤ length (now table) ⌝ }
     ensures { λ r. ⌜ r ≡ readingOf (namesRuled (between (now (t .entry)) (now (list .entry)) 0 n)) ⌝ }
@@ -74,12 +78,12 @@ fn read_named(
         t,
         list,
         n,
-        objects_ix,
         objects,
         subjects_ix,
         subjects,
-        functions_ix,
         functions,
+        words,
+        starts,
     );
     if unknown != NO_LINE {
         return refused(refusal::UNKNOWN, unknown);
@@ -96,11 +100,11 @@ fn read_named(
         t,
         list,
         n,
-        objects_ix,
+        words,
+        starts,
         objects,
         subjects_ix,
         subjects,
-        functions_ix,
         functions,
         table,
     );
@@ -127,6 +131,8 @@ pub fn read_fields(t: &[u8], list: &[usize], n: usize, table: &mut [u16]) -> Rea
     objects_ix[layout::MULTIPLIER_AT] = MULTIPLIER;
     subjects_ix[layout::MULTIPLIER_AT] = MULTIPLIER;
     functions_ix[layout::MULTIPLIER_AT] = MULTIPLIER;
+    let mut words = [0u16; WORDS];
+    let mut starts = [0usize; STARTS];
     let names = index_names(
         t,
         list,
@@ -134,21 +140,14 @@ pub fn read_fields(t: &[u8], list: &[usize], n: usize, table: &mut [u16]) -> Rea
         &mut objects_ix,
         &mut subjects_ix,
         &mut functions_ix,
+        &mut words,
+        &mut starts,
     );
     let twice = names.twice;
     if twice != NO_LINE {
         return refused(refusal::TWICE, twice);
     }
-    read_named(
-        t,
-        list,
-        n,
-        &objects_ix,
-        &subjects_ix,
-        &functions_ix,
-        names,
-        table,
-    )
+    read_named(t, list, n, &subjects_ix, names, &words, &starts, table)
 }
 
 // A text with a table that has room.

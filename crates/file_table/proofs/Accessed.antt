@@ -8,10 +8,10 @@ use mir.Syntax.{w64}
 use mir.Val.{Fits}
 use lib.ListN.{length, take, drop, replicate, length-replicate}
 use lib.Seq.{length-take-le}
-use Rattle.paper.specs.Common.{bytes, allOf, is}
+use Rattle.paper.specs.Common.{bytes, is}
 use Rattle.paper.specs.Limits.{mostElements}
 use Rattle.paper.specs.Lists.{elements}
-use Rattle.paper.specs.Listing.{objectName, principal, canRead, canWrite, callContextIn, objectContextIn}
+use Rattle.paper.specs.Listing.{principal, canRead, canWrite, callContextIn, objectContextIn}
 use Rattle.paper.specs.Page.{Field}
 use Rattle.paper.specs.Entries.{valueAt, entriesOf, itemsOf}
 use Rattle.paper.specs.Rules.{descriptorsOf, descriptorsIn}
@@ -21,14 +21,14 @@ use Rattle.laws.proofs.Places.{drop-zeros}
 use Rattle.laws.proofs.Stretches.{length-padded}
 use Rattle.laws_file.specs.Accepted.{total}
 use Rattle.file_fields.specs.Places.{IsAccess}
-use Rattle.file_fields.specs.Fields.{between, nextAt, valueOr, wellSpaced}
+use Rattle.file_fields.specs.Fields.{between, nextAt, valueOr}
 use Rattle.file_fields.proofs.Between.{between-none}
 use Rattle.file_fields.proofs.Accesses.{access-value, one-descriptor}
 use Rattle.file_table.specs.Blocks.{itemBlocks, accessBlocks, ownBlocks, descriptorBlocks, Filled}
 use Rattle.file_table.specs.Ready.{Ready, Bounded}
 use Rattle.file_table.proofs.Writing.{take-zeros, Written, written-none, written-padded, written-all, written-length, left-zeros, left-room, zeros-length}
 use Rattle.file_fields.proofs.Walking.{Walked, walked}
-use Rattle.file_table.proofs.Fitting.{stretch-spaced, item-pattern, item-size}
+use Rattle.file_table.proofs.Fitting.{item-pattern, item-size}
 use Rattle.file_table.proofs.Entered.{entries-first, entries-more, entries-none, total-more, both-counts}
 
 -- ---- `can_read` or `can_write`
@@ -59,18 +59,14 @@ module _ (access : ℕ) (which : IsAccess access) (t list : List ℕ) (from to :
     items-room h = omega (arith, items-counted access (between t list from to) (said ∙ h))
 
 -- no field at all stands between a number and itself
-module _ (t list : List ℕ) (n : ℕ) (objectIx : List ℕ) (objects : ℕ) (functionIx : List ℕ) (functions : ℕ)
-    (ready : Ready objectName t list n objectIx objects functionIx functions) (to : ℕ) (b : to ≤ n) where
-  pub none-spaced : allOf wellSpaced (between t list to to) ≡ true
-  none-spaced = stretch-spaced objectName t list n objectIx objects functionIx functions ready to to (omega arith) b
-
+module _ (t list : List ℕ) (n : ℕ) (words starts : List ℕ) (ready : Ready t list n words starts) (to : ℕ) (b : to ≤ n) where
   module _ (access : ℕ) (which : IsAccess access) where
     pub none-short : length (elements (valueAt (callContextIn (objectContextIn access)) (between t list to to))) ≤ mostElements
-    none-short = item-pattern objectName t list n objectIx objects functionIx functions ready to to (omega arith) b access which
+    none-short = item-pattern t list n words starts ready to to (omega arith) b access which
 
     none-size : length (descriptorWords (descriptorOf (between t list 0 n) access [])) ≡ descriptorSize
     none-size =
-        rw (between-none t list to to (omega arith)) at (item-size objectName t list n objectIx objects functionIx functions ready to to (omega arith) b (between t list 0 n) access which)
+        rw (between-none t list to to (omega arith)) at (item-size t list n words starts ready to to (omega arith) b (between t list 0 n) access which)
 
     module _ (from : ℕ) (v : List ℕ) (e : v ≡ valueOr (bytes "all") (bytes "[]") access (between t list from to)) (r : Bool) (q : r ≡ is "all" v) where
       module _ (old : List ℕ) (zeros : old ≡ replicate (length old) 0) (enough : descriptorSize * descriptorsOf access (between t list from to) ≤ length old) where

@@ -1,27 +1,25 @@
 -- The descriptors written so far, item by item, and the next one behind them.
 use mathlib.Core.Path.{_≡_, refl, ap}
-use mathlib.Core.Bool.{true}
 use mathlib.Core.List.{List, [], _∷_, _++_, flatMap}
 use Prim.Native.Nat.{ℕ, _+_, _-_, _*_, _^_, _<_, _≤_}
 use native.Mathlib.Omega.{arith}
 use mir.Syntax.{w64}
 use mir.Val.{Fits}
 use lib.ListN.{length, take, drop, replicate}
-use Rattle.paper.specs.Common.{allOf}
 use Rattle.paper.specs.Limits.{mostElements}
 use Rattle.paper.specs.Lists.{elements}
-use Rattle.paper.specs.Listing.{objectName, callContextIn, objectContextIn}
+use Rattle.paper.specs.Listing.{callContextIn, objectContextIn}
 use Rattle.paper.specs.Page.{Field}
 use Rattle.paper.specs.Entries.{valueAt, itemsOf}
 use Rattle.paper.specs.Policy.{descriptorOf}
 use Rattle.paper.specs.Table.{descriptorSize, descriptorWords}
 use Rattle.file_fields.specs.Places.{IsAccess}
-use Rattle.file_fields.specs.Fields.{between, nextAt, wellSpaced}
+use Rattle.file_fields.specs.Fields.{between, nextAt}
 use Rattle.file_table.specs.Blocks.{itemBlocks, Filled}
 use Rattle.file_table.specs.Ready.{Ready}
 use Rattle.file_table.proofs.Writing.{Written, written-none, written-more, written-all, written-length, unwritten}
 use Rattle.file_fields.proofs.Walking.{Walked, walked, walk-order, walk-within, stretches-first, stretches-more, stretches-none}
-use Rattle.file_table.proofs.Fitting.{stretch-spaced, item-pattern, item-size}
+use Rattle.file_table.proofs.Fitting.{item-pattern, item-size}
 
 -- ---- the items from a number on
 
@@ -92,13 +90,10 @@ module _ (t list : List ℕ) (n access from to i d : ℕ) (old out : List ℕ) (
       pub item-within : j ≤ n
       item-within = omega (arith, walk-within list (access + 1) i to j e h)
 
-      module _ (objectIx : List ℕ) (objects : ℕ) (functionIx : List ℕ) (functions : ℕ) (ready : Ready objectName t list n objectIx objects functionIx functions) where
-        pub item-spaced : allOf wellSpaced (between t list i j) ≡ true
-        item-spaced = stretch-spaced objectName t list n objectIx objects functionIx functions ready i j (walk-order list (access + 1) i to j e) item-within
-
+      module _ (words starts : List ℕ) (ready : Ready t list n words starts) where
         module _ (which : IsAccess access) where
           pub item-short : length (elements (valueAt (callContextIn (objectContextIn access)) (between t list i j))) ≤ mostElements
-          item-short = item-pattern objectName t list n objectIx objects functionIx functions ready i j (walk-order list (access + 1) i to j e) item-within access which
+          item-short = item-pattern t list n words starts ready i j (walk-order list (access + 1) i to j e) item-within access which
 
           pub items-again : (ys : List ℕ) → ys ≡ descriptorWords (descriptorOf (between t list 0 n) access (between t list i j))
               → descriptorSize * length (itemsOf access (between t list from to)) ≤ length old
@@ -117,7 +112,7 @@ module _ (t list : List ℕ) (n access from to i d : ℕ) (old out : List ℕ) (
                 done =
                     rw (q, at)
                     (written-more (w .done) descriptorSize ys (itemBlocks (between t list 0 n) access (itemsOf access (between t list j to))) rest
-                    (rw y (item-size objectName t list n objectIx objects functionIx functions ready i j (walk-order list (access + 1) i to j e) item-within (between t list 0 n) access which))
+                    (rw y (item-size t list n words starts ready i j (walk-order list (access + 1) i to j e) item-within (between t list 0 n) access which))
                     (item-room enough));
               }
 

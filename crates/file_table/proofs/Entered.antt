@@ -1,26 +1,24 @@
 -- The entries written so far, and the next one behind them.
 use mathlib.Core.Path.{_≡_, refl, ap}
-use mathlib.Core.Bool.{true}
 use mathlib.Core.List.{List, [], _∷_, _++_, flatMap}
 use Prim.Native.Nat.{ℕ, _+_, _-_, _*_, _<_, _≤_}
 use native.Mathlib.Omega.{arith}
 use lib.ListN.{length, take, drop, replicate, length-replicate}
-use Rattle.paper.specs.Common.{allOf}
 use Rattle.paper.specs.Limits.{mostElements, mostDescriptors}
 use Rattle.paper.specs.Lists.{elements}
-use Rattle.paper.specs.Listing.{principal, subjectName, executionContext, canRead, canWrite, callContextIn}
+use Rattle.paper.specs.Listing.{principal, executionContext, canRead, canWrite, callContextIn}
 use Rattle.paper.specs.Page.{Field}
 use Rattle.paper.specs.Entries.{valueAt, entriesOf}
 use Rattle.paper.specs.Rules.{descriptorsOf, descriptorsIn}
 use Rattle.paper.specs.Policy.{entryOf}
 use Rattle.paper.specs.Table.{entrySize, entriesSize, entryWords}
 use Rattle.laws_file.specs.Accepted.{total}
-use Rattle.file_fields.specs.Fields.{between, nextAt, wellSpaced}
+use Rattle.file_fields.specs.Fields.{between, nextAt}
 use Rattle.file_table.specs.Blocks.{entryBlocks, Filled}
 use Rattle.file_table.specs.Ready.{Ready, Bounded}
 use Rattle.file_table.proofs.Writing.{Written, written-none, written-more, written-all, written-length, unwritten, zeros-length}
 use Rattle.file_fields.proofs.Walking.{Walked, walked, walk-order, walk-within, stretches-first, stretches-more, stretches-none}
-use Rattle.file_table.proofs.Fitting.{stretch-spaced, entry-pattern, entry-size}
+use Rattle.file_table.proofs.Fitting.{entry-pattern, entry-size}
 
 -- ---- the entries from a number on
 
@@ -101,12 +99,9 @@ module _ (t list : List ℕ) (n from k : ℕ) (out : List ℕ) (w : EntriesWritt
       pub entry-unwritten : take (entrySize * k + entrySize - entrySize * k) (drop (entrySize * k) out) ≡ replicate entrySize 0
       entry-unwritten = let q : entrySize * k + entrySize - entrySize * k ≡ entrySize = omega arith in rw q (unwritten (w .done) entrySize entry-room)
 
-      module _ (subjectIx : List ℕ) (subjects : ℕ) (functionIx : List ℕ) (functions : ℕ) (ready : Ready subjectName t list n subjectIx subjects functionIx functions) where
-        pub entry-spaced : allOf wellSpaced (between t list from to) ≡ true
-        entry-spaced = stretch-spaced subjectName t list n subjectIx subjects functionIx functions ready from to entry-order entry-within
-
+      module _ (words starts : List ℕ) (ready : Ready t list n words starts) where
         pub entry-short : length (elements (valueAt (callContextIn executionContext) (between t list from to))) ≤ mostElements
-        entry-short = entry-pattern subjectName t list n subjectIx subjects functionIx functions ready from to entry-order entry-within
+        entry-short = entry-pattern t list n words starts ready from to entry-order entry-within
 
         pub entries-again : (ys : List ℕ) → ys ≡ entryWords (entryOf (between t list 0 n) (between t list from to))
             → EntriesWritten t list n to (k + 1) (take (entrySize * k) out ++ (ys ++ drop (entrySize * k + entrySize - entrySize * k) (drop (entrySize * k) out)))
@@ -123,7 +118,7 @@ module _ (t list : List ℕ) (n from k : ℕ) (out : List ℕ) (w : EntriesWritt
               done =
                   rw (q, at)
                   (written-more (w .done) entrySize ys (entryBlocks (between t list 0 n) (entriesOf (between t list to n))) rest
-                  (rw y (entry-size subjectName t list n subjectIx subjects functionIx functions ready from to entry-order entry-within (between t list 0 n))) entry-room);
+                  (rw y (entry-size t list n words starts ready from to entry-order entry-within (between t list 0 n))) entry-room);
             }
 
   pub entries-length : (old : List ℕ) → old ≡ replicate entriesSize 0 → length out ≡ length old

@@ -1,6 +1,6 @@
 -- What fits of a file's fields fits of those of a stretch, and its blocks have their sizes.
 use mathlib.Core.Path.{_≡_, refl}
-use mathlib.Core.Bool.{Bool, true, false, cond, not, _&&_}
+use mathlib.Core.Bool.{Bool, true, false, cond, _&&_}
 use mathlib.Core.Logic.{_⊎_, inl, inr, ⊎-elim}
 use mathlib.Core.List.{List, []}
 use Prim.Native.Nat.{ℕ, _-_, _≤_}
@@ -17,8 +17,8 @@ use Rattle.paper.specs.Entries.{isAtOne, callContexts, defaultAt, meant, valueA
 use Rattle.paper.specs.Rules.{longPattern}
 use Rattle.paper.specs.Policy.{contextOf, descriptorOf, entryOf}
 use Rattle.paper.specs.Table.{entrySize, descriptorSize, entryWords, descriptorWords}
-use Rattle.laws.proofs.Tests.{both-left, both-right}
-use Rattle.laws.proofs.Counting.{allOf-weaker, allOf-counted, counted-allOf}
+use Rattle.laws.proofs.Tests.{both-right}
+use Rattle.laws.proofs.Counting.{allOf-counted, counted-allOf}
 use Rattle.laws_table.proofs.Entries.{length-entry, length-descriptor}
 use Rattle.laws_file.proofs.Stretched.{value-holds}
 use Rattle.file_fields.specs.Places.{IsAccess}
@@ -31,10 +31,6 @@ between-all : (test : Field → Bool) (t list : List ℕ) (n i j : ℕ) → allO
 unfolding between
 between-all test t list n i j h a b =
     counted-allOf (fieldAt t list) test i (j - i) (λ m p q. allOf-counted (fieldAt t list) test 0 (n - 0) h m (omega arith) (omega arith))
-
-fit-spaced : (f : Field) → fits f ≡ true → wellSpaced f ≡ true
-unfolding fits
-fit-spaced f h = both-left (wellSpaced f) (not (longPattern f)) h
 
 -- ---- a pattern has at most 16 elements
 
@@ -83,14 +79,9 @@ writing = inr refl
 
 -- ---- of a file that is ready
 
-module _ (names : ℕ) (t list : List ℕ) (n : ℕ) (domainIx : List ℕ) (domains : ℕ) (functionIx : List ℕ) (functions : ℕ)
-    (ready : Ready names t list n domainIx domains functionIx functions) (i j : ℕ) (a : i ≤ j)
-    (b : j ≤ n) where
+module _ (t list : List ℕ) (n : ℕ) (words starts : List ℕ) (ready : Ready t list n words starts) (i j : ℕ) (a : i ≤ j) (b : j ≤ n) where
   stretch-fits : allOf fits (between t list i j) ≡ true
   stretch-fits = between-all fits t list n i j (ready .fit) a b
-
-  pub stretch-spaced : allOf wellSpaced (between t list i j) ≡ true
-  stretch-spaced = allOf-weaker fits wellSpaced fit-spaced (between t list i j) stretch-fits
 
   pub entry-pattern : length (elements (valueAt (callContextIn executionContext) (between t list i j))) ≤ mostElements
   entry-pattern = short-value (callContextIn executionContext) execution-listed (between t list i j) stretch-fits

@@ -1,6 +1,6 @@
 -- The words of a file's policy are its blocks one behind the other, and each fits where it stands.
 use mathlib.Core.Path.{_≡_, refl, sym, ap, _∙_}
-use mathlib.Core.Bool.{true, false, not}
+use mathlib.Core.Bool.{true, not}
 use mathlib.Core.List.{List, [], _∷_, _++_, map, flatMap, append-assoc, append-nil}
 use Prim.Native.Nat.{ℕ, _+_, _*_, _≤_}
 use native.Mathlib.Omega.{arith}
@@ -12,7 +12,7 @@ use Rattle.paper.specs.Text.{noLine}
 use Rattle.paper.specs.Listing.{objectName, objectMembers, subjectName, subjectMembers, principal, canRead, canWrite}
 use Rattle.paper.specs.Page.{Field}
 use Rattle.paper.specs.Entries.{fieldsAt, entriesOf}
-use Rattle.paper.specs.Rules.{descriptorsIn, longPattern, overLimit, domainsAt, identifiersAt, repeats}
+use Rattle.paper.specs.Rules.{descriptorsIn, longPattern, overLimit, domainsAt, identifiersAt}
 use Rattle.paper.specs.Policy.{accessOf, entryOf, memberDomains, policyOf}
 use Rattle.paper.specs.Table.{mark, headSize, objectsAt, entriesAt, entrySize, entriesSize, descriptorSize, descriptorsSize, padded, descriptorWords, wordsOf}
 use Rattle.laws.proofs.Counting.{flatMap-append}
@@ -23,9 +23,9 @@ use Rattle.laws_file.proofs.Stretched.{allOf-both, stretches-counted}
 use Rattle.laws_file.proofs.Members.{members-length, members-counted}
 use Rattle.laws_file.proofs.Kept.{Counted, counted}
 use Rattle.file_fields.specs.Fields.{fieldSize, between, wellSpaced}
-use Rattle.file_index.specs.Maps.{Maps}
+use Rattle.file_words.specs.Words.{numbersOf, Worded}
 use Rattle.file_table.specs.Blocks.{entryBlocks, accessBlocks, ownBlocks, descriptorBlocks, mapsSize, mapBlocks, privilegesSize, privilegeBlocks, Filled}
-use Rattle.file_table.specs.Ready.{fits, Ready, Bounded}
+use Rattle.file_table.specs.Ready.{fits, Ready, OfObjects, OfSubjects, OfFunctions, Bounded}
 use Rattle.file_table.proofs.Writing.{take-zeros}
 use Rattle.file_table.proofs.Laying.{Laid, laid-first, laid-zeros, laid-more, laid-all, front-zeros, front-laid}
 
@@ -49,27 +49,11 @@ module _ (file : List Field) (numbered : allOf isNumbered file ≡ true) (limits
   unfolding fits
   file-fits spaced = allOf-both wellSpaced (λ f. not (longPattern f)) file spaced (within-limits .patterns)
 
--- the indexes of its maps
-module _ (t list : List ℕ) (n : ℕ) (objectIx subjectIx functionIx : List ℕ) (objects subjects functions : ℕ) (listed : fieldSize * n ≤ length list)
-    (maps : Maps t (between t list 0 n) objectIx subjectIx functionIx objects subjects functions) (spaced : allOf wellSpaced (between t list 0 n) ≡ true)
+-- its fields fit where none is too long, and the words of their names are given
+module _ (t list : List ℕ) (n : ℕ) (words starts : List ℕ) (listed : fieldSize * n ≤ length list) (spaced : allOf wellSpaced (between t list 0 n) ≡ true)
     (numbered : allOf isNumbered (between t list 0 n) ≡ true) (limits : overLimit (between t list 0 n) ≡ noLine) where
-  pub subjects-ready : repeats [] (domainsAt subjectName (between t list 0 n)) ≡ false → Ready subjectName t list n subjectIx subjects functionIx functions
-  subjects-ready apart = record {
-    listed = listed;
-    fit = file-fits (between t list 0 n) numbered limits spaced;
-    of-domains = maps .of-subjects;
-    apart = apart;
-    of-functions = maps .of-functions;
-  }
-
-  pub objects-ready : repeats [] (domainsAt objectName (between t list 0 n)) ≡ false → Ready objectName t list n objectIx objects functionIx functions
-  objects-ready apart = record {
-    listed = listed;
-    fit = file-fits (between t list 0 n) numbered limits spaced;
-    of-domains = maps .of-objects;
-    apart = apart;
-    of-functions = maps .of-functions;
-  }
+  pub file-ready : Worded (numbersOf (between t list 0 n)) t list n words starts → Ready t list n words starts
+  file-ready worded = record { listed = listed; fit = file-fits (between t list 0 n) numbered limits spaced; worded = worded }
 
 -- ---- the words of its policy
 
@@ -166,14 +150,14 @@ module _ (file : List Field) (numbered : allOf isNumbered file ≡ true) (limits
       pub head-unwritten : take headSize (drop 0 table₂) ≡ replicate headSize 0
       head-unwritten = front-zeros headSize (y₁ ++ y₂) (drop tableWords table) table₂ [] whole
 
-      module _ (t objectIx subjectIx functionIx : List ℕ) (objects subjects functions : ℕ) (maps : Maps t file objectIx subjectIx functionIx objects subjects functions) (members entries : ℕ)
-          (c : members ≡ length (objectWords file)) (d : entries ≡ length (entriesOf file)) (y₃ : List ℕ)
+      module _ (t subjectIx : List ℕ) (objects subjects functions : ℕ) (of-objects : OfObjects objects file) (of-subjects : OfSubjects t subjectIx subjects file)
+          (of-functions : OfFunctions functions file) (members entries : ℕ) (c : members ≡ length (objectWords file)) (d : entries ≡ length (entriesOf file)) (y₃ : List ℕ)
           (e₃ : y₃ ≡ padded headSize (mark ∷ objects ∷ subjects ∷ members ∷ functions ∷ entries ∷ [])) where
         counts : y₃ ≡ padded headSize (headWords file)
         unfolding identifiersAt
         counts =
             e₃
-            ∙ rw (maps .of-objects .index .count, maps .of-subjects .index .count, maps .of-functions .index .count, c, d, ← members-length 0 (fieldsAt subjectMembers file)) refl
+            ∙ rw (of-objects .counted, of-subjects .index .index .count, of-functions .counted, c, d, ← members-length 0 (fieldsAt subjectMembers file)) refl
 
         pub table-written : take 0 table₂ ++ (y₃ ++ drop headSize (drop 0 table₂)) ≡ wordsOf (policyOf file) ++ drop tableWords table
         table-written =

@@ -3,16 +3,16 @@ use paper::limit;
 use table::layout;
 use text_keys::rows;
 ghost use mathlib.Core.Path.{_≡_};
-ghost use mathlib.Core.Bool.{true, false};
+ghost use mathlib.Core.Bool.{true};
 ghost use mathlib.Core.List.{[], _∷_, _++_};
 ghost use Prim.Native.Nat.{_+_, _*_, _≤_};
 ghost use lib.ListN.{length, take, drop, replicate};
 ghost use Rattle.paper.specs.Common.{allOf};
 ghost use Rattle.paper.specs.Limits.{mostDomains, mostMembers, mostEntries, tableWords};
 ghost use Rattle.paper.specs.Text.{noLine};
-ghost use Rattle.paper.specs.Listing.{objectName, objectMembers, subjectName, subjectMembers};
+ghost use Rattle.paper.specs.Listing.{objectMembers, subjectMembers};
 ghost use Rattle.paper.specs.Entries.{fieldsAt, entriesOf, itemsOf};
-ghost use Rattle.paper.specs.Rules.{descriptorsOf, descriptorsIn, overLimit, domainsAt, repeats};
+ghost use Rattle.paper.specs.Rules.{descriptorsOf, descriptorsIn, overLimit};
 ghost use Rattle.paper.specs.Policy.{memberDomains, policyOf};
 ghost use Rattle.paper.specs.Table.{mark, headSize, entrySize, entriesSize, descriptorSize, descriptorsSize, padded, wordsOf};
 ghost use Rattle.laws_page.specs.Right.{isNumbered};
@@ -20,9 +20,9 @@ ghost use Rattle.laws_file.specs.Accepted.{total};
 ghost use Rattle.file_fields.specs.Fields.{fieldSize, between, wellSpaced};
 ghost use Rattle.file_fields.specs.Listed.{mostFields};
 ghost use Rattle.file_fields.specs.Places.{IsAccess};
-ghost use Rattle.file_index.specs.Maps.{Maps};
+ghost use Rattle.file_words.specs.Words.{numbersOf, Worded};
 ghost use Rattle.file_table.specs.Blocks.{entryBlocks, itemBlocks, accessBlocks, ownBlocks, descriptorBlocks, mapsSize, mapBlocks, privilegesSize, privilegeBlocks, Filled};
-ghost use Rattle.file_table.specs.Ready.{Ready, Bounded};
+ghost use Rattle.file_table.specs.Ready.{Ready, OfObjects, OfSubjects, OfFunctions, Bounded};
 
 // So many words hold the members of both maps, the entries, and the entries with their descriptors.
 const MAPS_SIZE: usize = layout::ENTRIES_AT - layout::OBJECTS_AT;
@@ -116,13 +116,13 @@ fn write_entries(
     t: &[u8],
     list: &[usize],
     n: usize,
+    words: &[u16],
+    starts: &[usize],
     subjects_ix: &[usize],
     subjects: usize,
-    functions_ix: &[usize],
-    functions: usize,
     out: &mut [u16],
 ) -> usize
-    requires { ⌜ Ready subjectName (now t) (now list) n (now «subjects_ix») subjects (now «functions_ix») functions ⌝ }
+    requires { ⌜ Ready (now t) (now list) n (now words) (now starts) × OfSubjects (now t) (now «subjects_ix») subjects (between (now t) (now list) 0 n) ⌝ }
     requires { ⌜ Bounded (between (now t) (now list) 0 n) ⌝ }
     requires { ⌜ now out ≡ replicate entriesSize 0 ⌝ }
     ensures { λ r. ⌜ Filled entrySize (length (entriesOf (between (now (t .entry)) (now (list .entry)) 0 n)))
@@ -139,12 +139,12 @@ fn write_entries(
             t,
             list,
             n,
+            words,
+            starts,
             from,
             to,
             subjects_ix,
             subjects,
-            functions_ix,
-            functions,
             &mut out[at..end],
         );
         k += 1;
@@ -158,16 +158,15 @@ fn write_items(
     t: &[u8],
     list: &[usize],
     n: usize,
+    words: &[u16],
+    starts: &[usize],
     access: usize,
     from: usize,
     to: usize,
-    objects_ix: &[usize],
     objects: usize,
-    functions_ix: &[usize],
-    functions: usize,
     out: &mut [u16],
 ) -> usize
-    requires { ⌜ Ready objectName (now t) (now list) n (now «objects_ix») objects (now «functions_ix») functions ⌝ }
+    requires { ⌜ Ready (now t) (now list) n (now words) (now starts) × OfObjects objects (between (now t) (now list) 0 n) ⌝ }
     requires { ⌜ IsAccess access ⌝ }
     requires { ⌜ (from ≤ to) × (to ≤ n) ⌝ }
     requires { ⌜ now out ≡ replicate (length (now out)) 0 ⌝ }
@@ -186,13 +185,12 @@ fn write_items(
             t,
             list,
             n,
+            words,
+            starts,
             access,
             i,
             j,
-            objects_ix,
             objects,
-            functions_ix,
-            functions,
             &mut out[at..end],
         );
         d += 1;
@@ -206,16 +204,15 @@ fn write_access(
     t: &[u8],
     list: &[usize],
     n: usize,
+    words: &[u16],
+    starts: &[usize],
     access: usize,
     from: usize,
     to: usize,
-    objects_ix: &[usize],
     objects: usize,
-    functions_ix: &[usize],
-    functions: usize,
     out: &mut [u16],
 ) -> usize
-    requires { ⌜ Ready objectName (now t) (now list) n (now «objects_ix») objects (now «functions_ix») functions ⌝ }
+    requires { ⌜ Ready (now t) (now list) n (now words) (now starts) × OfObjects objects (between (now t) (now list) 0 n) ⌝ }
     requires { ⌜ IsAccess access ⌝ }
     requires { ⌜ (from ≤ to) × (to ≤ n) ⌝ }
     requires { ⌜ now out ≡ replicate (length (now out)) 0 ⌝ }
@@ -230,30 +227,17 @@ fn write_access(
             t,
             list,
             n,
+            words,
+            starts,
             access,
             to,
             to,
-            objects_ix,
             objects,
-            functions_ix,
-            functions,
             &mut out[..layout::DESCRIPTOR_SIZE],
         );
         return 1;
     }
-    write_items(
-        t,
-        list,
-        n,
-        access,
-        from,
-        to,
-        objects_ix,
-        objects,
-        functions_ix,
-        functions,
-        out,
-    )
+    write_items(t, list, n, words, starts, access, from, to, objects, out)
 }
 
 // The descriptors of an entry, its reads first: how many there are.
@@ -261,15 +245,14 @@ fn write_accesses(
     t: &[u8],
     list: &[usize],
     n: usize,
+    words: &[u16],
+    starts: &[usize],
     from: usize,
     to: usize,
-    objects_ix: &[usize],
     objects: usize,
-    functions_ix: &[usize],
-    functions: usize,
     out: &mut [u16],
 ) -> usize
-    requires { ⌜ Ready objectName (now t) (now list) n (now «objects_ix») objects (now «functions_ix») functions ⌝ }
+    requires { ⌜ Ready (now t) (now list) n (now words) (now starts) × OfObjects objects (between (now t) (now list) 0 n) ⌝ }
     requires { ⌜ (from ≤ to) × (to ≤ n) ⌝ }
     requires { ⌜ now out ≡ replicate (length (now out)) 0 ⌝ }
     requires { ⌜ descriptorSize * descriptorsIn (between (now t) (now list) from to) ≤ length (now out) ⌝ }
@@ -281,13 +264,12 @@ fn write_accesses(
         t,
         list,
         n,
+        words,
+        starts,
         rows::CAN_READ,
         from,
         to,
-        objects_ix,
         objects,
-        functions_ix,
-        functions,
         out,
     );
     let at = layout::DESCRIPTOR_SIZE * reads;
@@ -295,13 +277,12 @@ fn write_accesses(
         t,
         list,
         n,
+        words,
+        starts,
         rows::CAN_WRITE,
         from,
         to,
-        objects_ix,
         objects,
-        functions_ix,
-        functions,
         &mut out[at..],
     );
     reads + writes
@@ -312,13 +293,12 @@ fn write_descriptors(
     t: &[u8],
     list: &[usize],
     n: usize,
-    objects_ix: &[usize],
+    words: &[u16],
+    starts: &[usize],
     objects: usize,
-    functions_ix: &[usize],
-    functions: usize,
     out: &mut [u16],
 ) -> usize
-    requires { ⌜ Ready objectName (now t) (now list) n (now «objects_ix») objects (now «functions_ix») functions ⌝ }
+    requires { ⌜ Ready (now t) (now list) n (now words) (now starts) × OfObjects objects (between (now t) (now list) 0 n) ⌝ }
     requires { ⌜ Bounded (between (now t) (now list) 0 n) ⌝ }
     requires { ⌜ now out ≡ replicate descriptorsSize 0 ⌝ }
     ensures { λ r. ⌜ Filled descriptorSize (total descriptorsIn (entriesOf (between (now (t .entry)) (now (list .entry)) 0 n)))
@@ -330,18 +310,7 @@ fn write_descriptors(
     while from < n {
         let to = file_fields::next_at(list, rows::PRINCIPAL, from + 1, n);
         let at = layout::DESCRIPTOR_SIZE * d;
-        let more = write_accesses(
-            t,
-            list,
-            n,
-            from,
-            to,
-            objects_ix,
-            objects,
-            functions_ix,
-            functions,
-            &mut out[at..],
-        );
+        let more = write_accesses(t, list, n, words, starts, from, to, objects, &mut out[at..]);
         d += more;
         from = to;
     }
@@ -353,16 +322,15 @@ fn write_privileges(
     t: &[u8],
     list: &[usize],
     n: usize,
-    objects_ix: &[usize],
+    words: &[u16],
+    starts: &[usize],
     objects: usize,
     subjects_ix: &[usize],
     subjects: usize,
-    functions_ix: &[usize],
-    functions: usize,
     out: &mut [u16],
 ) -> usize
-    requires { ⌜ Ready objectName (now t) (now list) n (now «objects_ix») objects (now «functions_ix») functions ⌝ }
-    requires { ⌜ Ready subjectName (now t) (now list) n (now «subjects_ix») subjects (now «functions_ix») functions ⌝ }
+    requires { ⌜ Ready (now t) (now list) n (now words) (now starts) × OfObjects objects (between (now t) (now list) 0 n) ⌝ }
+    requires { ⌜ Ready (now t) (now list) n (now words) (now starts) × OfSubjects (now t) (now «subjects_ix») subjects (between (now t) (now list) 0 n) ⌝ }
     requires { ⌜ Bounded (between (now t) (now list) 0 n) ⌝ }
     requires { ⌜ (length (now out) ≡ privilegesSize) × (now out ≡ replicate (length (now out)) 0) ⌝ }
     ensures { λ r. ⌜ r ≡ length (entriesOf (between (now (t .entry)) (now (list .entry)) 0 n)) ⌝ }
@@ -373,20 +341,19 @@ fn write_privileges(
         t,
         list,
         n,
+        words,
+        starts,
         subjects_ix,
         subjects,
-        functions_ix,
-        functions,
         &mut out[0..ENTRIES_SIZE],
     );
     write_descriptors(
         t,
         list,
         n,
-        objects_ix,
+        words,
+        starts,
         objects,
-        functions_ix,
-        functions,
         &mut out[ENTRIES_SIZE..PRIVILEGES_SIZE],
     );
     entries
@@ -397,17 +364,19 @@ pub fn write_table(
     t: &[u8],
     list: &[usize],
     n: usize,
-    objects_ix: &[usize],
+    words: &[u16],
+    starts: &[usize],
     objects: usize,
     subjects_ix: &[usize],
     subjects: usize,
-    functions_ix: &[usize],
     functions: usize,
     table: &mut [u16],
 )
     requires { ⌜ (fieldSize * n ≤ length (now list)) × (n ≤ mostFields) ⌝ }
-    requires { ⌜ Maps (now t) (between (now t) (now list) 0 n) (now «objects_ix») (now «subjects_ix») (now «functions_ix») objects subjects functions ⌝ }
-    requires { ⌜ (repeats [] (domainsAt objectName (between (now t) (now list) 0 n)) ≡ false) × (repeats [] (domainsAt subjectName (between (now t) (now list) 0 n)) ≡ false) ⌝ }
+    requires { ⌜ Worded (numbersOf (between (now t) (now list) 0 n)) (now t) (now list) n (now words) (now starts) ⌝ }
+    requires { ⌜ OfObjects objects (between (now t) (now list) 0 n)
+        × OfSubjects (now t) (now «subjects_ix») subjects (between (now t) (now list) 0 n)
+        × OfFunctions functions (between (now t) (now list) 0 n) ⌝ }
     requires { ⌜ (allOf wellSpaced (between (now t) (now list) 0 n) ≡ true) × (allOf isNumbered (between (now t) (now list) 0 n) ≡ true) × (overLimit (between (now t) (now list) 0 n) ≡ noLine) ⌝ }
     requires { ⌜ (tableWords ≤ length (now table)) × (take tableWords (now table) ≡ replicate tableWords 0) ⌝ }
     ensures { λ r. ⌜ now (table .exit) ≡ wordsOf (policyOf (between (now (t .entry)) (now (list .entry)) 0 n)) ++ drop tableWords (now (table .entry)) ⌝ }
@@ -422,12 +391,11 @@ pub fn write_table(
         t,
         list,
         n,
-        objects_ix,
+        words,
+        starts,
         objects,
         subjects_ix,
         subjects,
-        functions_ix,
-        functions,
         &mut table[layout::ENTRIES_AT..limit::TABLE_WORDS],
     );
     write_head(

@@ -9,7 +9,6 @@ use lib.Seq.{take-suc, take-length, append-snoc, set-at, length-take-le}
 use Rattle.laws.proofs.Places.{drop-more}
 use Rattle.text_keys.specs.Rows.{keyText}
 use Rattle.text_keys.specs.declared.rows.Key.{Key}
-use Rattle.text_keys.specs.declared.rows.Key.the-variants.{Nothing}
 use Rattle.filled_lines.specs.Wrote.{Wrote}
 
 -- i bytes are copied, the others are as they were
@@ -29,13 +28,13 @@ pub byte-put : (b : ℕ) (old : List ℕ) → 1 ≤ length old → Wrote (b ∷ 
 byte-put b [] h = absurd (omega arith)
 byte-put b (x ∷ xs) h = record { room = h; far = refl; left = refl }
 
--- a key that is known by its name
-module _ (key k : Key) (e : key ≡ k) where
-  pub key-room : (n m : ℕ) → length (keyText k) ≡ n → length (keyText key) ≤ m → n ≤ m
-  key-room n m l h = let q : length (keyText k) ≤ m = rw e at h in omega arith
+-- a key that stands in front of some bytes
+module _ (key : Key) (bs : List ℕ) (n : ℕ) (e : take (length (keyText key)) bs ≡ keyText key) (f : n ≡ length (keyText key)) where
+  front : take n bs ≡ keyText key
+  front = rw f e
 
-  pub key-put : (old out : List ℕ) (r : ℕ) → Wrote (keyText k) old out r → Wrote (keyText key) old out r
-  key-put old out r w = rw e w
+  pub key-room : (m : ℕ) → length (keyText key) ≤ m → length (take n bs) ≤ m
+  key-room m h = rw front h
 
-pub nothing-put : (key : Key) (old : List ℕ) → key ≡ Nothing → Wrote (keyText key) old old 0
-nothing-put key old e = rw e (record { room = omega arith; far = refl; left = refl })
+  pub key-put : (old out : List ℕ) (r : ℕ) → Wrote (take n bs) old out r → Wrote (keyText key) old out r
+  key-put old out r w = rw front at w

@@ -31,32 +31,12 @@ pub fn put_byte(b: u8, out: &mut [u8]) -> usize
     1
 }
 
-// The braces have each text made in its own arm; all would be made at every call without them.
 fn put_key(key: Key, out: &mut [u8]) -> usize
     requires { ⌜ Fits (keyText key) (now out) ⌝ }
     ensures { λ r. ⌜ Wrote (keyText key) (now (out .entry)) (now (out .exit)) r ⌝ }
 {
-    match key {
-        Key::Nothing => 0,
-        Key::ObjectMap => put(&{ *b"object_map:" }, out),
-        Key::Name => put(&{ *b"- name:" }, out),
-        Key::Objects => put(&{ *b"  objects:" }, out),
-        Key::SubjectMap => put(&{ *b"subject_map:" }, out),
-        Key::Subjects => put(&{ *b"  subjects:" }, out),
-        Key::Privileges => put(&{ *b"privileges:" }, out),
-        Key::Principal => put(&{ *b"- principal:" }, out),
-        Key::Subject => put(&{ *b"    subject:" }, out),
-        Key::ExecutionContext => put(&{ *b"    execution_context:" }, out),
-        Key::CallContext => put(&{ *b"      call_context:" }, out),
-        Key::Uid => put(&{ *b"      uid:" }, out),
-        Key::Gid => put(&{ *b"      gid:" }, out),
-        Key::CanCall => put(&{ *b"  can_call:" }, out),
-        Key::CanReturn => put(&{ *b"  can_return:" }, out),
-        Key::CanRead => put(&{ *b"  can_read:" }, out),
-        Key::ItemObjects => put(&{ *b"  - objects:" }, out),
-        Key::ObjectContext => put(&{ *b"    object_context:" }, out),
-        Key::CanWrite => put(&{ *b"  can_write:" }, out),
-    }
+    let text = text_keys::key_text(key);
+    put(&text[..text_keys::key_size(key)], out)
 }
 
 // The key of a place.

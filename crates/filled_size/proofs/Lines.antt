@@ -17,15 +17,10 @@ use Rattle.paper.specs.Filled.{keyLine, bareLine, writtenLine, valueLine}
 use Rattle.laws.proofs.Tests.{le-or-lt}
 use Rattle.text_keys.specs.Rows.{keyText, seen, told}
 use Rattle.text_keys.specs.declared.rows.Row.{Row}
-use Rattle.text_keys.specs.declared.rows.Key.{Key}
 use Rattle.text_keys.proofs.Looks.{key-of}
 use Rattle.file_fields.specs.Fields.{placeIn, valueIn, fieldAt, between, nextAt, valueOr}
 use Rattle.file_fields.proofs.Between.{value-short, value-is-omitted, value-is-none, value-is}
 use Rattle.file_fields.proofs.Places.{told-value}
-
--- a key that is known by its name
-pub size-of : (key k : Key) (n : ℕ) → key ≡ k → n ≡ length (keyText k) → n ≡ length (keyText key)
-size-of key k n e f = f ∙ ap (λ (x : Key). length (keyText x)) (sym e)
 
 module _ (place : ℕ) (row : Row) (k : ℕ) (e : seen row ≡ told (rowAt place)) (f : k ≡ length (keyText (row .key))) where
   key-length : k ≡ length (keyAt place)

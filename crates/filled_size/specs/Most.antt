@@ -1,10 +1,7 @@
 -- How long what is filled in can get: so that no sum of sizes is too large for a number.
 use Prim.Native.Nat.{ℕ, _+_, _*_}
 use Rattle.paper.specs.Limits.{textBytes}
-
--- the longest key is `    execution_context:`
-abbrev pub mostKey : ℕ
-mostKey = 22
+use Rattle.text_keys.specs.Rows.{mostKey}
 
 -- a line: its key, a space, a value of a text, LF
 abbrev pub mostLine : ℕ

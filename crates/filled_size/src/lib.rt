@@ -3,8 +3,8 @@ use file_fields::next_at;
 use file_fields::place_of;
 use file_fields::value_at;
 use file_fields::value_of;
+use text_keys::key_size;
 use text_keys::rows;
-use text_keys::rows::Key;
 ghost use mathlib.Core.Path.{_≡_};
 ghost use mathlib.Core.List.{flatMap};
 ghost use Prim.Native.Nat.{_+_, _-_, _*_, _≤_};
@@ -12,38 +12,10 @@ ghost use lib.ListN.{length};
 ghost use Rattle.paper.specs.Limits.{textBytes};
 ghost use Rattle.paper.specs.Entries.{defaultAt, itemsOf, entriesOf};
 ghost use Rattle.paper.specs.Filled.{keyLine, bareLine, writtenLine, valueLine, contextText, itemText, accessText, entryText, filledText};
-ghost use Rattle.text_keys.specs.Rows.{keyText};
 ghost use Rattle.file_fields.specs.Fields.{fieldSize, fieldAt, between};
 ghost use Rattle.file_fields.specs.Listed.{mostFields};
 ghost use Rattle.file_fields.specs.Places.{IsAccess, IsContext};
-ghost use Rattle.filled_size.specs.Most.{mostKey, mostLine, mostItem, mostEntry};
-
-// The colon is counted, LF is not.
-fn key_size(key: Key) -> usize
-    ensures { λ r. ⌜ (r ≡ length (keyText key)) × (r ≤ mostKey) ⌝ }
-{
-    match key {
-        Key::Nothing => 0,
-        Key::ObjectMap => 11,
-        Key::Name => 7,
-        Key::Objects => 10,
-        Key::SubjectMap => 12,
-        Key::Subjects => 11,
-        Key::Privileges => 11,
-        Key::Principal => 12,
-        Key::Subject => 12,
-        Key::ExecutionContext => 22,
-        Key::CallContext => 19,
-        Key::Uid => 10,
-        Key::Gid => 10,
-        Key::CanCall => 11,
-        Key::CanReturn => 13,
-        Key::CanRead => 11,
-        Key::ItemObjects => 12,
-        Key::ObjectContext => 19,
-        Key::CanWrite => 12,
-    }
-}
+ghost use Rattle.filled_size.specs.Most.{mostLine, mostItem, mostEntry};
 
 fn bare_line(place: usize) -> usize
     ensures { λ r. ⌜ (r ≡ length (bareLine place)) × (r ≤ mostLine) ⌝ }

@@ -1,13 +1,9 @@
 -- Parts of the paper's texts that have a writer of their own.
 use Prim.Native.Nat.{ℕ}
 use mathlib.Core.List.{List, _++_}
-use Rattle.paper.specs.Listing.{principal, subjectOfEntry, executionContext, canCall, canReturn, canRead, canWrite, uidIn, gidIn}
+use Rattle.paper.specs.Listing.{principal, subjectOfEntry, executionContext, canCall, canReturn, canRead, canWrite}
 use Rattle.paper.specs.Page.{Field}
 use Rattle.paper.specs.Filled.{bareLine, valueLine, contextText, accessText}
-
--- the end of `contextText`
-unfoldable pub idsText : ℕ → List Field → List ℕ
-idsText context fs = valueLine (uidIn context) fs ++ valueLine (gidIn context) fs
 
 -- `entryText` down to the execution context
 unfoldable pub principalText : List Field → List ℕ

@@ -1,3 +1,1 @@
-pub mod Moments
-pub mod Passes
 pub mod Demand

@@ -12,7 +12,7 @@ use Rattle.paper.specs.Scalars.{Sort, anyone, variable, root, user, sortNumber}
 use Rattle.paper.specs.Policy.{Entry, Policy}
 use Rattle.paper.specs.Match.{Moment, top, topLiesIn, sortFits, matches, entryMatches}
 use Rattle.paper.specs.Overlap.{isUser, witnessUid}
-use Rattle.overlap_meeting.specs.Best.{topPasses, Meet, inDomain, bestStack, NotAfter}
+use Rattle.overlap_cells.specs.Best.{topPasses, Meet, inDomain, bestStack, NotAfter}
 use Rattle.overlap_meeting.proofs.Best.{Some}
 use Rattle.overlap_meeting.proofs.Order.{best-short, best-sound, best-least}
 use Rattle.laws.proofs.Tests.{both-true, both-left, both-right}

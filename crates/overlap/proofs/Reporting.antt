@@ -16,7 +16,7 @@ use Rattle.paper.specs.Table.{padded, entryIn, policyIn, entryCount, wellFormed
 use Rattle.paper.specs.Match.{Moment}
 use Rattle.paper.specs.Overlap.{BothMatch, NeverBoth, FirstClash, Says, entryOfPolicy, witnessUid, witnessLeft}
 use Rattle.paper.specs.Promises.{reportRefusal, Reported}
-use Rattle.overlap_meeting.specs.Best.{NotAfter}
+use Rattle.overlap_cells.specs.Best.{NotAfter}
 use Rattle.overlap_meeting.proofs.Best.{Some}
 use Rattle.overlap.specs.Clash.{pairStack, tableStack}
 use Rattle.overlap.specs.Told.{Ready, NoneBefore, Clashing, FirstOfAll, Least}

@@ -19,7 +19,7 @@ use Rattle.paper.specs.Overlap.{Says, entryOfPolicy, witnessUid, witnessLeft}
 use Rattle.paper.specs.Promises.{fileOf, judgeEvent}
 use Rattle.paper.proofs.Computing.{computing}
 use Rattle.paper.proofs.Example.{example}
-use Rattle.overlap_meeting.specs.Best.{better, inFront, firstsOf, bestWith, row, bestBy, lowerOrSame, comesFirst, inDomain, lowestIn, alone, bestStack}
+use Rattle.overlap_cells.specs.Best.{better, inFront, firstsOf, bestWith, row, bestBy, lowerOrSame, comesFirst, inDomain, lowestIn, alone, bestStack}
 use Rattle.overlap.specs.Clash.{isRoot, apart, mayClash, clashStack, pairStack}
 use Rattle.overlap.proofs.Two.{two-clear, two-clash}
 

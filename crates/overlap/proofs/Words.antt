@@ -18,7 +18,7 @@ use Rattle.laws.proofs.Tests.{both-left, both-right}
 use Rattle.laws.proofs.Counting.{length-map-counted, getD-counted}
 use Rattle.laws_table.proofs.Formed.{formed}
 use Rattle.laws_table.proofs.Entries.{entry-context}
-use Rattle.overlap_meeting.specs.Best.{bestStack}
+use Rattle.overlap_cells.specs.Best.{bestStack}
 use Rattle.overlap_meeting.specs.Written.{Fits, Written}
 use Rattle.overlap.specs.Clash.{isRoot, apart, mayClash, clashStack, pairStack, tableStack}
 use Rattle.overlap.proofs.Clash.{clash-short}

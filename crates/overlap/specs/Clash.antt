@@ -7,7 +7,7 @@ use Rattle.paper.specs.Scalars.{Sort, root, sortNumber}
 use Rattle.paper.specs.Policy.{Entry, Policy}
 use Rattle.paper.specs.Table.{entryIn, functionDomainsIn}
 use Rattle.paper.specs.Overlap.{isUser, entryOfPolicy}
-use Rattle.overlap_meeting.specs.Best.{bestStack}
+use Rattle.overlap_cells.specs.Best.{bestStack}
 
 -- an entry says `root`
 unfoldable pub isRoot : Sort → Bool

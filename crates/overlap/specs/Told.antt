@@ -11,7 +11,7 @@ use Rattle.paper.specs.Policy.{Policy}
 use Rattle.paper.specs.Table.{entryCount, entryIn, wellFormed}
 use Rattle.paper.specs.Match.{Moment}
 use Rattle.paper.specs.Overlap.{BothMatch, PairBefore, witnessUid, witnessLeft}
-use Rattle.overlap_meeting.specs.Best.{NotAfter}
+use Rattle.overlap_cells.specs.Best.{NotAfter}
 use Rattle.overlap_meeting.specs.Written.{Written}
 use Rattle.overlap.specs.declared.Found.{Found}
 use Rattle.overlap.specs.declared.Found.the-variants.{Nothing, At}

@@ -154,7 +154,7 @@ pub fn overlap(table: &[u16], witness: &mut [u16]) -> Report
     ensures { λ r. ⌜ Reported (now (table .entry)) (now (witness .entry)) (now (witness .exit)) r ⌝ }
     ensures { λ r. ⌜ Least (policyIn (now (table .entry))) (now (witness .exit)) r ⌝ }
 {
-    if !table::well_formed(table) {
+    if !table_test::well_formed(table) {
         return Report::Unreported {
             number: refusal::TABLE_ILL_FORMED,
         };

@@ -12,8 +12,8 @@ use Rattle.paper.specs.Policy.{Element, all, fn}
 use Rattle.paper.specs.Match.{swallowing, firstEquals, matches}
 use Rattle.laws.proofs.Tests.{both-true, both-of, either-of, either-right}
 use Rattle.judge_pattern.proofs.Lists.{all-takes, empty-refuses}
-use Rattle.overlap_meeting.specs.declared.Firsts.the-variants.{Same, Apart}
-use Rattle.overlap_meeting.specs.Best.{topPasses, Meet, better, inFront, firstsOf, bestWith, row, bestBy}
+use Rattle.overlap_cells.specs.declared.Firsts.the-variants.{Same, Apart}
+use Rattle.overlap_cells.specs.Best.{topPasses, Meet, better, inFront, firstsOf, bestWith, row, bestBy}
 
 -- ---- what a step of `matches` says
 pub fn-split : (a x : ℕ) (P : List Element) (w : List ℕ) → matches (fn a ∷ P) (x ∷ w) ≡ true → (a ≡ x) × (matches P w ≡ true)

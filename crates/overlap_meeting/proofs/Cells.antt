@@ -13,13 +13,13 @@ use Rattle.paper.specs.Policy.{Element}
 use Rattle.paper.specs.Table.{elementIn}
 use Rattle.laws.proofs.Tests.{le-or-lt, same-or-not}
 use Rattle.laws.proofs.Elements.{at-end}
-use Rattle.overlap_meeting.specs.declared.Firsts.{Firsts}
-use Rattle.overlap_meeting.specs.declared.Firsts.the-variants.{BothAll, OneAll, OtherAll, Same, Apart}
-use Rattle.overlap_meeting.specs.Best.{better, inFront, bestWith, row, bestBy, comesFirst, inDomain, lowestIn, alone, bestStack}
-use Rattle.overlap_meeting.specs.Cells.{places, filled, cells, patternFrom, firstsFrom, stackAt, stackOf, cellStack, fromCells, Forward, Filled}
+use Rattle.overlap_cells.specs.declared.Firsts.{Firsts}
+use Rattle.overlap_cells.specs.declared.Firsts.the-variants.{BothAll, OneAll, OtherAll, Same, Apart}
+use Rattle.overlap_cells.specs.Best.{better, inFront, bestWith, row, bestBy, comesFirst, inDomain, lowestIn, alone, bestStack}
+use Rattle.overlap_cells.specs.Cells.{places, filled, cells, patternFrom, firstsFrom, stackAt, stackOf, cellStack, fromCells, Forward, Filled}
 use Rattle.overlap_meeting.proofs.Order.{best-short}
-use Rattle.overlap_meeting.proofs.Chains.{cell-read, chain-length}
-use Rattle.overlap_meeting.proofs.Beginnings.{other-ended}
+use Rattle.overlap_cells.proofs.Chains.{cell-read, chain-length}
+use Rattle.overlap_cells.proofs.Beginnings.{other-ended}
 
 -- ---- by the first elements
 module _ (low both one other r : List ℕ) (x : Firsts) where

@@ -15,12 +15,12 @@ use Rattle.paper.specs.Table.{elementIn}
 use Rattle.paper.specs.Overlap.{witnessLeft}
 use Rattle.laws.proofs.Elements.{word-fn}
 use Rattle.judge_pattern.proofs.Lists.{empty-refuses}
-use Rattle.overlap_meeting.specs.Best.{topPasses, inDomain, bestStack}
-use Rattle.overlap_meeting.specs.Cells.{Differ, NeverMeet}
+use Rattle.overlap_cells.specs.Best.{topPasses, inDomain, bestStack}
+use Rattle.overlap_cells.specs.Cells.{Differ, NeverMeet}
 use Rattle.overlap_meeting.specs.Written.{Written}
 use Rattle.overlap_meeting.proofs.Best.{Some, fn-split, all-split, all-none, top-one, top-none, top-more}
 use Rattle.overlap_meeting.proofs.Order.{best-sound}
-use Rattle.overlap_meeting.proofs.Beginnings.{firsts-apart, firsts-read}
+use Rattle.overlap_cells.proofs.Beginnings.{firsts-apart, firsts-read}
 use Rattle.overlap_meeting.proofs.Cells.{apart-none}
 
 -- ---- the top of a stack that a pattern with a function at its end matches

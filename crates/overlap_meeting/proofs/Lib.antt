@@ -1,8 +1,5 @@
 pub mod Best
 pub mod Order
-mod OnlyAll
-mod Beginnings
-mod Chains
 mod Cells
 mod Ends
 mod Writing

@@ -13,7 +13,7 @@ use borrow.Author.Tests.{eqb-true, eqb-false, eq-eqb, ltb-true, ltb-false, lt-lt
 use Rattle.paper.specs.Policy.{Element, all}
 use Rattle.paper.specs.Match.{matches}
 use Rattle.laws.proofs.Tests.{le-or-lt, both-true, both-of, either-of, neither-left, neither-right}
-use Rattle.overlap_meeting.specs.Best.{topPasses, Meet, lowerOrSame, comesFirst, NotAbove, NotAfter, inDomain, alone, lowestIn, bestStack}
+use Rattle.overlap_cells.specs.Best.{topPasses, Meet, lowerOrSame, comesFirst, NotAbove, NotAfter, inDomain, alone, lowestIn, bestStack}
 use Rattle.overlap_meeting.proofs.Best.{Some, Good, AtMost, sound, short, least, all-keep, all-none}
 
 lower-true : (u v : List ℕ) → lowerOrSame u v ≡ true → NotAbove u v

@@ -9,10 +9,10 @@ use Rattle.paper.specs.Limits.{witnessWords}
 use Rattle.paper.specs.Table.{elementIn, padded}
 use Rattle.paper.specs.Overlap.{witnessLeft}
 use Rattle.laws.proofs.Places.{drop-zeros}
-use Rattle.overlap_meeting.specs.Best.{bestStack}
-use Rattle.overlap_meeting.specs.Cells.{lastCell, cells, stackAt, Forward, Filled}
+use Rattle.overlap_cells.specs.Best.{bestStack}
+use Rattle.overlap_cells.specs.Cells.{lastCell, cells, stackAt, Forward, Filled}
 use Rattle.overlap_meeting.specs.Written.{Written}
-use Rattle.overlap_meeting.proofs.Chains.{stack-length}
+use Rattle.overlap_cells.proofs.Chains.{stack-length}
 
 -- ---- the cells before they are filled
 pub no-frames-yet : (n c : ℕ) → getD {A = ℕ} (replicate n 0) c 0 ≡ 0

@@ -10,8 +10,8 @@ use lib.Seq.{drop-cons, take-suc, append-snoc, set-at, length-take-le, take-all}
 use Rattle.paper.specs.Limits.{witnessWords}
 use Rattle.paper.specs.Table.{padded}
 use Rattle.paper.specs.Overlap.{witnessLeft}
-use Rattle.overlap_meeting.specs.Cells.{stackAt}
-use Rattle.overlap_meeting.proofs.Chains.{stack-more, stack-length}
+use Rattle.overlap_cells.specs.Cells.{stackAt}
+use Rattle.overlap_cells.proofs.Chains.{stack-more, stack-length}
 
 module _ (S O : List ℕ) (i : ℕ) where
   write-more : (x : ℕ) → i < length S → i < length O → getD S i 0 ≡ x → set (take i S ++ drop i O) i x ≡ take (i + 1) S ++ drop (i + 1) O

@@ -1,6 +1,6 @@
 // Judges the trials of document 01 and tells each verdict in words; then replays the stored cases and tells how many answers
 // differ from those stored. What the bytes of the files mean: data/README.md.
-use export::class;
+use export_packed::class;
 
 // Standard output.
 const OUT: i32 = 1;
@@ -481,60 +481,63 @@ fn replay(room: &mut [u8], name: &[u8], cases: Cases, done: &[u8]) {
     io::write_all(OUT, b" answers differ\n");
 }
 
-fn main() {
-    let mut room = [0u8; FILE_BYTES];
+// What is asked of tables, of texts and of names: a function each, since a proof of one with nine calls is long.
+fn replay_of_tables(room: &mut [u8]) {
+    replay(room, b"trials.cases", Cases::Trials, b" trials judged, ");
     replay(
-        &mut room,
-        b"trials.cases",
-        Cases::Trials,
-        b" trials judged, ",
-    );
-    replay(
-        &mut room,
+        room,
         b"judge.cases",
         Cases::Events,
         b" stored events judged, ",
     );
     replay(
-        &mut room,
+        room,
         b"overlap.cases",
         Cases::Reports,
         b" stored tables reported on, ",
     );
+}
+
+fn replay_of_texts(room: &mut [u8]) {
+    replay(room, b"page.cases", Cases::Pages, b" stored pages read, ");
     replay(
-        &mut room,
-        b"page.cases",
-        Cases::Pages,
-        b" stored pages read, ",
-    );
-    replay(
-        &mut room,
+        room,
         b"read.cases",
         Cases::Readings,
         b" stored texts read into tables, ",
     );
     replay(
-        &mut room,
+        room,
         b"fill.cases",
         Cases::Fillings,
         b" stored texts filled out, ",
     );
+}
+
+fn replay_of_names(room: &mut [u8]) {
     replay(
-        &mut room,
+        room,
         b"name.cases",
         Cases::Names,
         b" stored names looked up, ",
     );
     replay(
-        &mut room,
+        room,
         b"list.cases",
         Cases::Listings,
         b" stored texts listed, ",
     );
     replay(
-        &mut room,
+        room,
         b"find.cases",
         Cases::Findings,
         b" stored names searched for, ",
     );
+}
+
+fn main() {
+    let mut room = [0u8; FILE_BYTES];
+    replay_of_tables(&mut room);
+    replay_of_texts(&mut room);
+    replay_of_names(&mut room);
 }

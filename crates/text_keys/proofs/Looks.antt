@@ -7,14 +7,14 @@ use native.Mathlib.Nat.{not-suc-le-zero}
 use native.Mathlib.Omega.{arith}
 use lib.Dec.{eqb}
 use lib.ListN.{length, take, drop, length-drop}
-use lib.Seq.{take-all}
+use lib.Seq.{take-all, length-take-le}
 use borrow.Author.Tests.{eq-eqb, ne-eqb}
 use Rattle.paper.specs.Common.{bytes, isFrontOf}
 use Rattle.laws.proofs.Tests.{both-right}
 use Rattle.paper.specs.Text.{column}
 use Rattle.paper.specs.Listing.{listing, rowAt, keyAt, dashed, alongside, beginsBlock}
 use Rattle.paper.specs.Page.{placeOf}
-use Rattle.text_keys.specs.Rows.{Said, keyText, placesUpTo, seen, told}
+use Rattle.text_keys.specs.Rows.{Said, keyText, mostKey, placesUpTo, seen, told}
 use Rattle.text_keys.specs.Asked.{answer}
 use Rattle.text_keys.specs.declared.Stand.{Stand}
 use Rattle.text_keys.specs.declared.rows.Row.{Row}
@@ -57,8 +57,11 @@ module _ (key l : List ℕ) (r : Bool) (e : r ≡ isFrontOf key l) where
 
 -- a key that is known by its name
 module _ (key k : Key) (e : key ≡ k) where
-  pub answer-of : (l : List ℕ) (r : Answer) → r ≡ answer (keyText k) l → r ≡ answer (keyText key) l
-  answer-of l r f = f ∙ ap (λ (x : Key). answer (keyText x) l) (sym e)
+  pub text-of : (bs : List ℕ) → take (length (keyText k)) bs ≡ keyText k → take (length (keyText key)) bs ≡ keyText key
+  text-of bs f = rw e f
+
+  pub size-of : (n : ℕ) → n ≡ length (keyText k) → n ≡ length (keyText key)
+  size-of n f = rw e f
 
   module _ (s : Stand) (n : ℕ) (d : Bool) (q : s ≡ record { column = n; dashed = d }) where
     pub column-of : n ≡ column (keyText k) → s .column ≡ column (keyText key)
@@ -66,6 +69,14 @@ module _ (key k : Key) (e : key ≡ k) where
 
     pub dashed-of : d ≡ dashed (keyText k) → s .dashed ≡ dashed (keyText key)
     dashed-of f = rw (e, q) f
+
+-- a key that stands in front of some bytes
+pub front-count : (n : ℕ) (bs : List ℕ) → n ≤ mostKey → length bs ≡ mostKey → n ≡ length (take n bs)
+front-count n bs h e = sym (length-take-le n bs (omega arith))
+
+pub asked-of : (key : Key) (bs l : List ℕ) (n : ℕ) (r : Answer) → take (length (keyText key)) bs ≡ keyText key → n ≡ length (keyText key) → r ≡ answer (take n bs) l
+    → r ≡ answer (keyText key) l
+asked-of key bs l n r e f g = g ∙ ap (λ (k : ℕ). answer (take k bs) l) f ∙ ap (λ (k : List ℕ). answer k l) e
 
 -- the row that the code found has the key of the place
 pub key-of : (p : ℕ) (r : Row) → seen r ≡ told (rowAt p) → keyText (r .key) ≡ keyAt p

@@ -33,6 +33,10 @@ keyText ItemObjects = bytes "  - objects:"
 keyText ObjectContext = bytes "    object_context:"
 keyText CanWrite = bytes "  can_write:"
 
+-- the longest key is `    execution_context:`
+abbrev pub mostKey : ℕ
+mostKey = 22
+
 -- the first so many places of a number, from its lowest byte up to a byte that is 0
 unfoldable pub placesUpTo : ℕ → ℕ → List ℕ
 placesUpTo zero packed = []

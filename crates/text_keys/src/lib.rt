@@ -5,11 +5,11 @@ use crate::rows::Key;
 use crate::rows::NOWHERE;
 ghost use mathlib.Core.Path.{_≡_};
 ghost use Prim.Native.Nat.{_≤_};
-ghost use lib.ListN.{length};
+ghost use lib.ListN.{length, take};
 ghost use Rattle.paper.specs.Text.{column};
 ghost use Rattle.paper.specs.Listing.{keyAt, dashed, alongside, beginsBlock};
 ghost use Rattle.paper.specs.Page.{placeOf};
-ghost use Rattle.text_keys.specs.Rows.{keyText, placesIn};
+ghost use Rattle.text_keys.specs.Rows.{keyText, mostKey, placesIn};
 ghost use Rattle.text_keys.specs.Asked.{answer};
 
 // The columns that keys stand at.
@@ -42,31 +42,65 @@ fn asked(key: &[u8], l: &[u8]) -> Answer
     Answer::No
 }
 
-// The braces have each text made in its own arm; all would be made at every call without them.
+// A key's text, with spaces behind it. It is an array and no stretch, so that only the text asked for is made.
+pub fn key_text(key: Key) -> [u8; 22]
+    ensures { λ r. ⌜ (length r ≡ mostKey) × (take (length (keyText key)) r ≡ keyText key) ⌝ }
+{
+    match key {
+        Key::Nothing => *b"                      ",
+        Key::ObjectMap => *b"object_map:           ",
+        Key::Name => *b"- name:               ",
+        Key::Objects => *b"  objects:            ",
+        Key::SubjectMap => *b"subject_map:          ",
+        Key::Subjects => *b"  subjects:           ",
+        Key::Privileges => *b"privileges:           ",
+        Key::Principal => *b"- principal:          ",
+        Key::Subject => *b"    subject:          ",
+        Key::ExecutionContext => *b"    execution_context:",
+        Key::CallContext => *b"      call_context:   ",
+        Key::Uid => *b"      uid:            ",
+        Key::Gid => *b"      gid:            ",
+        Key::CanCall => *b"  can_call:           ",
+        Key::CanReturn => *b"  can_return:         ",
+        Key::CanRead => *b"  can_read:           ",
+        Key::ItemObjects => *b"  - objects:          ",
+        Key::ObjectContext => *b"    object_context:   ",
+        Key::CanWrite => *b"  can_write:          ",
+    }
+}
+
+// The colon is counted, LF is not.
+pub fn key_size(key: Key) -> usize
+    ensures { λ r. ⌜ (r ≡ length (keyText key)) × (r ≤ mostKey) ⌝ }
+{
+    match key {
+        Key::Nothing => 0,
+        Key::ObjectMap => 11,
+        Key::Name => 7,
+        Key::Objects => 10,
+        Key::SubjectMap => 12,
+        Key::Subjects => 11,
+        Key::Privileges => 11,
+        Key::Principal => 12,
+        Key::Subject => 12,
+        Key::ExecutionContext => 22,
+        Key::CallContext => 19,
+        Key::Uid => 10,
+        Key::Gid => 10,
+        Key::CanCall => 11,
+        Key::CanReturn => 13,
+        Key::CanRead => 11,
+        Key::ItemObjects => 12,
+        Key::ObjectContext => 19,
+        Key::CanWrite => 12,
+    }
+}
+
 fn key_asked(key: Key, l: &[u8]) -> Answer
     ensures { λ r. ⌜ r ≡ answer (keyText key) (now (l .entry)) ⌝ }
 {
-    match key {
-        Key::Nothing => asked(&{ *b"" }, l),
-        Key::ObjectMap => asked(&{ *b"object_map:" }, l),
-        Key::Name => asked(&{ *b"- name:" }, l),
-        Key::Objects => asked(&{ *b"  objects:" }, l),
-        Key::SubjectMap => asked(&{ *b"subject_map:" }, l),
-        Key::Subjects => asked(&{ *b"  subjects:" }, l),
-        Key::Privileges => asked(&{ *b"privileges:" }, l),
-        Key::Principal => asked(&{ *b"- principal:" }, l),
-        Key::Subject => asked(&{ *b"    subject:" }, l),
-        Key::ExecutionContext => asked(&{ *b"    execution_context:" }, l),
-        Key::CallContext => asked(&{ *b"      call_context:" }, l),
-        Key::Uid => asked(&{ *b"      uid:" }, l),
-        Key::Gid => asked(&{ *b"      gid:" }, l),
-        Key::CanCall => asked(&{ *b"  can_call:" }, l),
-        Key::CanReturn => asked(&{ *b"  can_return:" }, l),
-        Key::CanRead => asked(&{ *b"  can_read:" }, l),
-        Key::ItemObjects => asked(&{ *b"  - objects:" }, l),
-        Key::ObjectContext => asked(&{ *b"    object_context:" }, l),
-        Key::CanWrite => asked(&{ *b"  can_write:" }, l),
-    }
+    let text = key_text(key);
+    asked(&text[..key_size(key)], l)
 }
 
 fn stands_at(column: usize, dashed: bool) -> Stand

@@ -122,16 +122,30 @@ module _ (t : List ℕ) (at : ℕ) (l : LineAt) (sp : Splits t at l) where
           let v : drop a (take (l .end - at) (drop at t)) ≡ take (l .end - (at + a)) (drop (at + a) t) = drop-take a (l .end - at) (drop at t) ∙ rw (k, drop-drop a at t) refl in
           page-is ∙ rw (q, v) refl
 
+      -- the line holds this field
+      abbrev FieldHere : ℕ → ℕ → Bool → Type 0
+      FieldHere p a b =
+          FieldOf
+          (stateOf st)
+          n
+          (record { start = at; text = take (l .end - at) (drop at t); ended = l .ended })
+          (record { place = p; bare = b; line = n })
+          (record { line = n; place = p; start = at + a; value = drop a (take (l .end - at) (drop at t)) })
+
+      field-here : (p a : ℕ) (b : Bool) → s ≡ steps.Field p b a → FieldHere p a b
+      field-here p a b q = field-on (stateOf st) _ n (record { start = at; text = take (l .end - at) (drop at t); ended = l .ended }) _ (e at ∙ rw q refl)
+
       -- the key of a field and its LF take at least eight bytes
       pub walk-further : (from p a : ℕ) (b : Bool) → StartsIn (take (l .end - at) (drop at t)) s → s ≡ steps.Field p b a → from ≤ at → from + fieldBytes ≤ l .next
-      walk-further from p a b i q k = go (field-on (stateOf st) _ n (record { start = at; text = take (l .end - at) (drop at t); ended = l .ended }) _ (e at ∙ rw q refl))
-        where
-          go : FieldOf (stateOf st) n (record { start = at; text = take (l .end - at) (drop at t); ended = l .ended })
-              (record { place = p; bare = b; line = n }) (record { line = n; place = p; start = at + a; value = drop a (take (l .end - at) (drop at t)) })
-              → from + fieldBytes ≤ l .next
-          go d =
-              let w : a ≤ length (take (l .end - at) (drop at t)) = rw q at i in
-              omega (arith, key-long (stateOf st) (take (l .end - at) (drop at t)) p (d .placed), d .keyed, d .starts, length-take (l .end - at) (drop at t), w, sp .after, sp .fed (d .ended))
+      walk-further from p a b i q k =
+          let d : FieldHere p a b = field-here p a b q in
+          let w : a ≤ length (take (l .end - at) (drop at t)) = rw q at i in
+          let long : fieldBytes ≤ a + 1 = omega (arith, key-long (stateOf st) (take (l .end - at) (drop at t)) p (d .placed), d .keyed, d .starts) in
+          omega (arith, long, length-take (l .end - at) (drop at t), w, sp .after, sp .fed (d .ended))
+
+      -- its value takes no more bytes than its line
+      pub walk-value : (from p a : ℕ) (b : Bool) → s ≡ steps.Field p b a → from ≤ at → from + (l .end - (at + a)) ≤ l .next
+      walk-value from p a b q k = omega (arith, sp .after, sp .fed (field-here p a b q .ended))
 
   module _ (p a : ℕ) (b : Bool) (s : step.Step) (i : StartsIn (take (l .end - at) (drop at t)) s) (q : s ≡ steps.Field p b a) where
     start-in : a ≤ l .end - at

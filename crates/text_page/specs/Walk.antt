@@ -56,9 +56,15 @@ pageNext t (Fault number line) = fault number line
 abbrev pub fieldBytes : ℕ
 fieldBytes = 8
 
--- a field's value stands in the text, and the walk goes on behind its line, so that a text of n bytes has at most n / fieldBytes fields
+-- a field's value stands in the text and on its line, and the walk goes on behind that line:
+-- a text of n bytes has at most n / fieldBytes fields, and their values have together at most n bytes
 abbrev pub Within : List ℕ → ℕ → Next → Type 0
 Within t at (Field line place start end after) =
-    (start ≤ end) × (end ≤ length t) × (at + fieldBytes ≤ after .at) × (after .at ≤ length t) × (after .line ≤ after .at + 1)
+    (start ≤ end)
+    × (end ≤ length t)
+    × (at + fieldBytes ≤ after .at)
+    × (after .at ≤ length t)
+    × (after .line ≤ after .at + 1)
+    × (at + (end - start) ≤ after .at)
 Within t at End = Unit
 Within t at (Fault number line) = Unit

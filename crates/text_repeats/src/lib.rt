@@ -1,67 +1,25 @@
 // Whether a name stands twice in a list. For n names the time is that of a sort, n log n, whatever the names are.
 // The places where the names begin are sorted by name. Where the names then ascend, and every name begins at one of the places, no two are the same.
 // That the sort sorts is not proved, and need not be: both are tested, and where a test fails the names are looked for behind themselves.
-use text_bytes::byte;
 use text_lists::Element;
+use text_order::all_ranked;
+use text_order::ascending;
+use text_order::is_under;
+use text_order::word_at;
 ghost use mathlib.Core.Path.{_≡_};
 ghost use mathlib.Core.Bool.{true, false, _&&_};
 ghost use mathlib.Core.List.{[]};
 ghost use Prim.Native.Nat.{_+_, _-_, _<_, _≤_};
 ghost use lib.Dec.{leb};
-ghost use lib.ListN.{length, getD, take, drop};
+ghost use lib.ListN.{length, take, drop};
 ghost use Rattle.paper.specs.Common.{among};
 ghost use Rattle.paper.specs.Limits.{textBytes};
-ghost use Rattle.paper.specs.Text.{comma};
 ghost use Rattle.paper.specs.Lists.{spaced, elementsIn};
 ghost use Rattle.paper.specs.Rules.{repeats};
 ghost use Rattle.text_lists.specs.Walk.{elementsLeft, SpacedFrom};
-ghost use Rattle.text_repeats.specs.Order.{Under, Ascends, OneOf};
 
 // Names begin two bytes apart at least, as a comma and a space stand between them: a text has no more than these.
 const MOST_NAMES: usize = 32769;
-
-// The byte at a place. Behind the text stands a comma, which ends the last name as it ends the others.
-fn byte_at(s: &[u8], place: usize) -> u8
-    ensures { λ r. ⌜ r ≡ getD (now (s .entry)) place comma ⌝ }
-{
-    if s.len() <= place {
-        return byte::COMMA;
-    }
-    s[place]
-}
-
-fn wide(w: u32) -> usize
-    ensures { λ r. ⌜ r ≡ w ⌝ }
-{
-    w as usize
-}
-
-// The word at a place of a list; behind its end 0.
-fn word_at(words: &[u32], i: usize) -> usize
-    ensures { λ r. ⌜ r ≡ getD (now (words .entry)) i 0 ⌝ }
-{
-    if words.len() <= i {
-        return 0;
-    }
-    wide(words[i])
-}
-
-// The name that begins at a is below the one that begins at b.
-fn is_under(s: &[u8], a: usize, b: usize) -> bool
-    ensures { λ r. ⌜ (r ≡ true → Under (now (s .entry)) a b) ⌝ }
-{
-    let mut i = a;
-    let mut j = b;
-    loop {
-        let x = byte_at(s, i);
-        let y = byte_at(s, j);
-        if (x != y) | (x == byte::COMMA) {
-            return x < y;
-        }
-        i += 1;
-        j += 1;
-    }
-}
 
 // Writes the places where the names begin, and answers how many there are.
 fn write_places(s: &[u8], places: &mut [u32]) -> usize
@@ -182,52 +140,6 @@ fn write_ranks(places: &[u32], n: usize, ranks: &mut [u32])
     while j < n {
         put(ranks, word_at(places, j) / 2, j as u32);
         j += 1;
-    }
-}
-
-// The number of the place up to which the names ascend.
-fn ascending(s: &[u8], places: &[u32], n: usize) -> usize
-    requires { ⌜ n ≤ length (now places) ⌝ }
-    ensures { λ r. ⌜ Ascends (now (s .entry)) (now (places .entry)) (r + 1) ⌝ }
-{
-    let mut last: usize = 0;
-    while last + 1 < n {
-        if !is_under(s, word_at(places, last), word_at(places, last + 1)) {
-            return last;
-        }
-        last += 1;
-    }
-    last
-}
-
-// The place is one of those up to number `last`: its rank says which.
-fn is_ranked(places: &[u32], ranks: &[u32], last: usize, at: usize) -> bool
-    ensures { λ r. ⌜ (r ≡ true → OneOf (now (places .entry)) (last + 1) at) ⌝ }
-{
-    let rank = word_at(ranks, at / 2);
-    if last < rank {
-        return false;
-    }
-    word_at(places, rank) == at
-}
-
-// Every name begins at one of the places whose names ascend.
-fn all_ranked(s: &[u8], places: &[u32], ranks: &[u32], last: usize) -> bool
-    requires { ⌜ spaced 0 (now s) ≡ true ⌝ }
-    requires { ⌜ Ascends (now s) (now places) (last + 1) ⌝ }
-    ensures { λ r. ⌜ (r ≡ true → repeats [] (elementsIn (now (s .entry))) ≡ false) ⌝ }
-{
-    let mut at = text_lists::first_element(s);
-    loop {
-        match text_lists::element_at(s, at) {
-            Element::NoneLeft => return true,
-            Element::Found { end, next } => {
-                if !is_ranked(places, ranks, last, at) {
-                    return false;
-                }
-                at = next;
-            }
-        }
     }
 }
 

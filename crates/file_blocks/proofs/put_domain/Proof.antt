@@ -4,9 +4,6 @@ use borrow.Author.Needs.{needs}
 use Rattle.file_blocks.proofs.put_domain.Statement.{statement}
 use Rattle.file_blocks.proofs.put_domain.Tie as tie
 
-number-in-requires : tie.Need-number-in-requires
-number-in-requires c κs = search needs
-
 returns : tie.Need-returns
 returns c = search (needs, no-domain)
 
@@ -20,5 +17,4 @@ returns-2 : tie.Need-returns-2
 returns-2 c = search (needs, one-domain)
 
 pub put-domain-spec : {M : Type 1} → statement M
-put-domain-spec =
-    tie.close (tie.spec number-in-requires returns insert-requires same-length returns-2)
+put-domain-spec = tie.close (tie.spec returns insert-requires same-length returns-2)

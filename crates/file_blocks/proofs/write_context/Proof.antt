@@ -1,12 +1,12 @@
--- The values at the three keys have the context.
+-- The next field of the pattern's place, and the values of the two other keys, have the context.
 use Rattle.file_fields.proofs.Places.{pattern-fits, uid-fits, gid-fits}
-use Rattle.file_blocks.proofs.Contexts.{pattern-spaced, pattern-few, context-at}
+use Rattle.file_blocks.proofs.Contexts.{pattern-of, context-at}
 use borrow.Author.Needs.{needs}
 use Rattle.file_blocks.proofs.write_context.Statement.{statement}
 use Rattle.file_blocks.proofs.write_context.Tie as tie
 
 add-value-at : tie.Need-add-value-at
-add-value-at c = search (needs, pattern-fits)
+add-value-at c = search (needs, uid-fits)
 
 slice-aggregate-value-at : tie.Need-slice-aggregate-value-at
 slice-aggregate-value-at c = search needs
@@ -18,7 +18,7 @@ value-at-requires : tie.Need-value-at-requires
 value-at-requires c κs = search needs
 
 add-value-at-2 : tie.Need-add-value-at-2
-add-value-at-2 c = search (needs, uid-fits)
+add-value-at-2 c = search (needs, gid-fits)
 
 slice-aggregate-value-at-3 : tie.Need-slice-aggregate-value-at-3
 slice-aggregate-value-at-3 c = search needs
@@ -29,29 +29,20 @@ slice-aggregate-value-at-4 c = search needs
 value-at-requires-2 : tie.Need-value-at-requires-2
 value-at-requires-2 c κs = search needs
 
-add-value-at-3 : tie.Need-add-value-at-3
-add-value-at-3 c = search (needs, gid-fits)
+add-next-at : tie.Need-add-next-at
+add-next-at c = search (needs, pattern-fits)
 
-slice-aggregate-value-at-5 : tie.Need-slice-aggregate-value-at-5
-slice-aggregate-value-at-5 c = search needs
-
-slice-aggregate-value-at-6 : tie.Need-slice-aggregate-value-at-6
-slice-aggregate-value-at-6 c = search needs
-
-value-at-requires-3 : tie.Need-value-at-requires-3
-value-at-requires-3 c κs = search needs
+next-at-requires : tie.Need-next-at-requires
+next-at-requires c κs = search needs
 
 write-keys-requires : tie.Need-write-keys-requires
-write-keys-requires c κs =
-    let pre = c .before .before .before .before .before .before .before .before .before .before .before .before .before .before .pre in
-    let pattern = c .before .before .before .before .before .before .before .value-at .ensures in
-    (pre .1 .0, (pattern-spaced _ (pre .0 .1) _ _ pattern (pre .1 .1 .0), (pattern-few _ (pre .0 .1) _ _ pattern (pre .1 .1 .1 .0), pre .1 .1 .1 .1)))
+write-keys-requires c κs = search (needs, pattern-of)
 
 same-length : tie.Need-same-length
 same-length c = search needs
 
 returns : tie.Need-returns
-returns c = search (needs, context-at, c .before .before .before .before .before .before .before .before .before .before .before .before .before .before .before .before .before .pre .0 .1)
+returns c = search (needs, context-at)
 
 pub write-context-spec : {M : Type 1} → statement M
 write-context-spec =
@@ -65,10 +56,8 @@ write-context-spec =
     slice-aggregate-value-at-3
     slice-aggregate-value-at-4
     value-at-requires-2
-    add-value-at-3
-    slice-aggregate-value-at-5
-    slice-aggregate-value-at-6
-    value-at-requires-3
+    add-next-at
+    next-at-requires
     write-keys-requires
     same-length
     returns)

@@ -1,6 +1,8 @@
 -- Each part is written behind those before it.
-use Rattle.file_fields.proofs.Places.{is-execution-context, call-default, return-default}
-use Rattle.file_blocks.proofs.Entries.{fields-within, room-in-entry, front-of-entry, entry-stays-long, calls-room, calls-zero, returns-room, returns-zero, entry-written}
+use Rattle.file_fields.proofs.Places.{is-execution-context}
+use Rattle.file_blocks.proofs.Placed.{pattern-few}
+use Rattle.file_blocks.proofs.Entries.{fields-within, starts-within, room-in-entry, front-of-entry, entry-stays-long}
+use Rattle.file_blocks.proofs.Entries.{calls-room, calls-zero, returns-room, returns-zero, entry-written}
 use borrow.Author.Needs.{needs}
 use Rattle.file_blocks.proofs.write_entry.Statement.{statement}
 use Rattle.file_blocks.proofs.write_entry.Tie as tie
@@ -13,10 +15,12 @@ slice-aggregate-write-context c = search needs
 
 write-context-requires : tie.Need-write-context-requires
 write-context-requires c κs =
-    let pre = c .before .before .before .before .before .before .pre in
-    let functions = pre .1 .1 .1 .0 in (
-      (fields-within _ _ _ (pre .0 .0) (pre .0 .1), is-execution-context),
-      ((functions .room, functions .few), (pre .1 .1 .1 .1 .0, (pre .1 .1 .1 .1 .1 .0, front-of-entry _ (pre .1 .1 .1 .1 .1 .1 .1)))),
+    let pre = c .before .before .before .before .before .before .before .pre in (
+      (fields-within _ _ _ (pre .0 .0) (pre .0 .1), starts-within _ _ _ (pre .0 .1) (pre .1 .0 .room), is-execution-context),
+      (
+        pattern-few _ _ _ _ _ _ _ (pre .0 .1) (pre .1 .0) _ is-execution-context (pre .1 .1 .1 .1 .0),
+        front-of-entry _ (pre .1 .1 .1 .1 .1 .1),
+      ),
     )
 
 write-counts-requires : tie.Need-write-counts-requires
@@ -29,15 +33,19 @@ part-write-grant-start : tie.Need-part-write-grant-start
 part-write-grant-start c = search needs
 
 part-write-grant-end : tie.Need-part-write-grant-end
-part-write-grant-end c = search (needs, calls-room)
+part-write-grant-end c =
+    let pre = c .before .before .before .before .before .before .before .before .before .before .before .before .before .before .pre in
+    let context = c .before .before .before .before .before .before .write-context .ensures in
+    let counts = c .before .before .write-counts .ensures in
+    calls-room _ _ _ _ _ _ _ (pre .0 .1) (pre .1 .0) (pre .1 .1 .1 .1 .0) _ _ (pre .1 .1 .1 .1 .1 .1) context _ _ _ counts
 
 write-grant-requires : tie.Need-write-grant-requires
 write-grant-requires c κs =
-    let pre = c .before .before .before .before .before .before .before .before .before .before .before .before .before .before .pre in
+    let pre = c .before .before .before .before .before .before .before .before .before .before .before .before .before .before .before .pre in
     let context = c .before .before .before .before .before .before .before .write-context .ensures in
     let counts = c .before .before .before .write-counts .ensures in (
-      (fields-within _ _ _ (pre .0 .0) (pre .0 .1), call-default),
-      (pre .1 .0 .room, (pre .1 .1 .1 .1 .0, calls-zero _ _ _ _ (pre .1 .1 .1 .1 .1 .0) _ _ (pre .1 .1 .1 .1 .1 .1 .1) context _ _ _ _ counts)),
+      (fields-within _ _ _ (pre .0 .0) (pre .0 .1), starts-within _ _ _ (pre .0 .1) (pre .1 .0 .room)),
+      calls-zero _ _ _ _ _ _ _ (pre .0 .1) (pre .1 .0) (pre .1 .1 .1 .1 .0) _ _ (pre .1 .1 .1 .1 .1 .1) context _ _ _ counts,
     )
 
 sub-write-grant-2 : tie.Need-sub-write-grant-2
@@ -48,27 +56,23 @@ part-write-grant-start-2 c = search needs
 
 part-write-grant-end-2 : tie.Need-part-write-grant-end-2
 part-write-grant-end-2 c =
-    let pre = c .before .before .before .before .before .before .before .before .before .before .before .before .before .before .before .before .before .pre in
+    let pre = c .before .before .before .before .before .before .before .before .before .before .before .before .before .before .before .before
+    .before .before .pre in
     let context = c .before .before .before .before .before .before .before .before .before .before .write-context .ensures in
     let counts = c .before .before .before .before .before .before .write-counts .ensures in
     let calls = c .before .before .write-grant .ensures in
-    returns-room _ _ _ _ _ _ _ (pre .1 .0) (pre .1 .1 .0) (pre .1 .1 .1 .0) (pre .1 .1 .1 .1 .1 .0) _ _ (pre .1 .1 .1 .1 .1 .1 .1) context _ counts _ calls
+    returns-room _ _ _ _ _ _ _ (pre .0 .1) (pre .1 .0) (pre .1 .1 .1 .1 .0) _ _ (pre .1 .1 .1 .1 .1 .1) context _ _ _ counts (pre .1 .1 .0) (pre .1 .1 .1 .0) _ calls
 
 write-grant-requires-2 : tie.Need-write-grant-requires-2
 write-grant-requires-2 c κs =
-    let pre = c .before .before .before .before .before .before .before .before .before .before .before .before .before .before .before .before .before .before .pre in
+    let pre = c .before .before .before .before .before .before .before .before .before .before .before .before .before .before .before .before
+    .before .before .before .pre in
     let context = c .before .before .before .before .before .before .before .before .before .before .before .write-context .ensures in
     let counts = c .before .before .before .before .before .before .before .write-counts .ensures in
     let calls = c .before .before .before .write-grant .ensures in (
-      (fields-within _ _ _ (pre .0 .0) (pre .0 .1), return-default),
-      (
-        pre .1 .0 .room,
-        (
-          pre .1 .1 .1 .1 .0,
-          returns-zero _ _ _ _ _ _ _ (pre .1 .0) (pre .1 .1 .0) (pre .1 .1 .1 .0) (pre .1 .1 .1 .1 .1 .0) _ _
-              (pre .1 .1 .1 .1 .1 .1 .1) context _ counts _ calls,
-        ),
-      ),
+      (fields-within _ _ _ (pre .0 .0) (pre .0 .1), starts-within _ _ _ (pre .0 .1) (pre .1 .0 .room)),
+      returns-zero _ _ _ _ _ _ _ (pre .0 .1) (pre .1 .0) (pre .1 .1 .1 .1 .0) _ _ (pre .1 .1 .1 .1 .1 .1) context _ _ _ counts (pre .1 .1 .0)
+          (pre .1 .1 .1 .0) _ calls,
     )
 
 same-length : tie.Need-same-length
@@ -76,12 +80,14 @@ same-length c = search needs
 
 returns : tie.Need-returns
 returns c =
-    let pre = c .before .before .before .before .before .before .before .before .before .before .before .before .before .before .before .before .before .before .before .before .before .pre in
+    let pre = c .before .before .before .before .before .before .before .before .before .before .before .before .before .before .before .before
+    .before .before .before .before .before .before .pre in
     let context = c .before .before .before .before .before .before .before .before .before .before .before .before .before .before .write-context .ensures in
     let counts = c .before .before .before .before .before .before .before .before .before .before .write-counts .ensures in
     let calls = c .before .before .before .before .before .before .write-grant .ensures in
     let returns = c .before .before .write-grant2 .ensures in
-    entry-written _ _ _ _ _ _ _ (pre .1 .0) (pre .1 .1 .0) (pre .1 .1 .1 .0) (pre .1 .1 .1 .1 .1 .0) _ _ (pre .1 .1 .1 .1 .1 .1 .1) context _ counts _ calls _ returns
+    entry-written _ _ _ _ _ _ _ (pre .0 .1) (pre .1 .0) (pre .1 .1 .1 .1 .0) _ _ (pre .1 .1 .1 .1 .1 .1) context _ _ _ counts (pre .1 .1 .0)
+    (pre .1 .1 .1 .0) _ calls _ returns
 
 pub write-entry-spec : {M : Type 1} → statement M
 write-entry-spec =

@@ -1,17 +1,24 @@
--- The loop: the fields in the list and what is left of the page are the page.
+-- The loop: the fields in the list and what is left of the page are the page; their values take no more bytes than the lines that the walk is past.
 use mathlib.Core.Path.{_≡_}
 use Prim.Native.Nat.{_+_, _-_, _*_, _≤_}
 use lib.ListN.{length}
 use Rattle.paper.specs.Page.{andFields, pageOf}
 use Rattle.text_page.specs.Walk.{pageLeft}
-use Rattle.file_fields.specs.Fields.{between}
-use Rattle.file_fields.proofs.Listing.{starts, starts-few, starts-within, starts-line, less, stays, line-stays, few-stay, room-left, keeps-length, again, ended, refused}
+use Rattle.file_fields.specs.Fields.{between, bytesTo}
+use Rattle.file_fields.proofs.Listing.{starts, starts-few, starts-bytes, starts-within, starts-line}
+use Rattle.file_fields.proofs.Listing.{less, stays, line-stays, few-stay, room-left, keeps-length, bytes-few, again, ended, refused}
 use borrow.Author.Needs.{needs}
 use Rattle.file_fields.proofs.list_page.Statement.{statement}
 use Rattle.file_fields.proofs.list_page.Tie as tie
 
 abbrev Inv-loop : tie.InvT-loop
-Inv-loop t list₀ c₀ n₀ list c n = (8 * n ≤ c .at) × (c .at ≤ length t) × (c .line ≤ c .at + 1) × (length list ≡ length list₀) × (andFields (between t list 0 n) (pageLeft t c) ≡ pageOf t)
+Inv-loop t list₀ c₀ n₀ list c n =
+    (8 * n ≤ c .at)
+    × (c .at ≤ length t)
+    × (c .line ≤ c .at + 1)
+    × (length list ≡ length list₀)
+    × (andFields (between t list 0 n) (pageLeft t c) ≡ pageOf t)
+    × (bytesTo list n ≤ c .at)
 
 abbrev μ-loop : tie.MeasureT-loop
 μ-loop t list₀ c₀ n₀ list c n = length t - c .at
@@ -20,7 +27,7 @@ start-requires : tie.Need-start-requires Inv-loop μ-loop
 start-requires c κs = search needs
 
 loop-holds : tie.Need-loop-holds Inv-loop μ-loop
-loop-holds c = search (needs, starts-few, starts-within, starts-line, starts)
+loop-holds c = search (needs, starts-few, starts-within, starts-line, starts, starts-bytes)
 
 next-field-requires : tie.Need-next-field-requires Inv-loop μ-loop
 next-field-requires c κs = search needs
@@ -38,7 +45,7 @@ loop-less : tie.Need-loop-less Inv-loop μ-loop
 loop-less c = search (needs, less)
 
 loop-again : tie.Need-loop-again Inv-loop μ-loop
-loop-again c = search (needs, few-stay, stays, line-stays, keeps-length, again)
+loop-again c = search (needs, few-stay, stays, line-stays, keeps-length, again, bytes-few)
 
 enum-told : tie.Need-enum-told Inv-loop μ-loop
 enum-told c = search needs

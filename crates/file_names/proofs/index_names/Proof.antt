@@ -1,5 +1,5 @@
--- The smallest of four lines is that of 7; where there is none, the maps are indexed and no name stands in one twice.
-use Rattle.file_names.proofs.Mapped.{went-room, twice-told, maps-told, distinct-told}
+-- The smallest of four lines is that of 7; where there is none, the maps are indexed, no name stands in one twice, and the words are those of the file.
+use Rattle.file_names.proofs.Mapped.{went-room, twice-told, maps-told, words-told, distinct-told}
 use borrow.Author.Needs.{needs}
 use Rattle.file_names.proofs.index_names.Statement.{statement}
 use Rattle.file_names.proofs.index_names.Tie as tie
@@ -13,11 +13,12 @@ objects-line-requires c κs = search needs
 index-maps-requires : tie.Need-index-maps-requires
 index-maps-requires c κs = search needs
 
-lists-line-requires : tie.Need-lists-line-requires
-lists-line-requires c κs =
-    let pre = c .before .before .before .before .before .before .before .before .before .before .before .before .before .before .before .before .before .before .before .pre in
-    let maps = c .before .before .before .before .before .before .before .before .index-maps .ensures in
-    (pre .0, went-room _ _ _ _ _ _ _ _ (maps .0) (pre .1 .1 .0) (pre .1 .1 .1 .0) (maps .1 .0) (maps .1 .1))
+word-lists-requires : tie.Need-word-lists-requires
+word-lists-requires c κs =
+    let pre = c .before .before .before .before .before .before .before .before .before .before .before .before .before .before .before .before .before
+    .before .before .before .before .before .before .before .pre in
+    let maps = c .before .before .before .before .before .before .before .before .before .before .before .index-maps .ensures in
+    (pre .0, (pre .1 .0, went-room _ _ _ _ _ _ _ _ _ (maps .0) (pre .1 .1 .1 .0) (pre .1 .1 .1 .1 .0) (pre .1 .1 .1 .1 .1) (maps .1 .0) (maps .1 .1) (maps .1 .2)))
 
 earlier-requires : tie.Need-earlier-requires
 earlier-requires c κs = search needs
@@ -37,22 +38,33 @@ same-length-2 c = search needs
 same-length-3 : tie.Need-same-length-3
 same-length-3 c = search needs
 
+same-length-4 : tie.Need-same-length-4
+same-length-4 c = search needs
+
+same-length-5 : tie.Need-same-length-5
+same-length-5 c = search needs
+
 returns : tie.Need-returns
 returns c =
-    let pre = c .before .before .before .before .before .before .before .before .before .before .before .before .before .before .before .before
-    .before .before .before .before .before .before .before .pre in
-    let domains = c .before .before .before .before .before .before .before .before .before .before .before .before .before .before .before .before .before .domains-line .ensures in
-    let objects = c .before .before .before .before .before .before .before .before .before .before .before .before .before .before .before .before .objects-line .ensures in
-    let maps = c .before .before .before .before .before .before .before .before .before .before .before .before .index-maps .ensures in
-    let lists = c .before .before .before .lists-line .ensures in
+    let pre = c .before .before .before .before .before .before .before .before .before .before .before .before .before .before .before .before .before
+    .before .before .before .before .before .before .before .before .before .before .before .before .before .before .before .pre in
+    let domains = c .before .before .before .before .before .before .before .before .before .before .before .before .before .before .before .before
+    .before .before .before .before .before .before .before .before .domains-line .ensures in
+    let objects = c .before .before .before .before .before .before .before .before .before .before .before .before .before .before .before .before
+    .before .before .before .before .before .before .before .objects-line .ensures in
+    let maps = c .before .before .before .before .before .before .before .before .before .before .before .before .before .before .before .before .before
+    .before .before .index-maps .ensures in
+    let lists = c .before .before .before .before .before .before .before .word-lists .ensures in
     let first = c .before .before .earlier .ensures in
     let second = c .before .earlier2 .ensures in
     let third = c .earlier3 .ensures in (
-      twice-told _ _ _ (pre .0) (pre .1 .0) _ _ _ _ _ _ _ domains objects (maps .0 .line) lists first second third,
+      twice-told _ _ _ (pre .0) (pre .1 .1 .0) _ _ _ _ _ _ _ domains objects (maps .0 .line) (lists .0) first second third,
       (
-        maps-told _ _ _ (pre .0) (pre .1 .0) _ _ _ _ _ _ _ domains objects (maps .0 .line) lists first second third _ _ _ _ (maps .0),
-        distinct-told
-            _ _ _ (pre .0) (pre .1 .0) _ _ _ _ _ _ _ domains objects (maps .0 .line) lists first second third,
+        maps-told _ _ _ (pre .0) (pre .1 .1 .0) _ _ _ _ _ _ _ domains objects (maps .0 .line) (lists .0) first second third _ _ _ _ (maps .0),
+        (
+          distinct-told _ _ _ (pre .0) (pre .1 .1 .0) _ _ _ _ _ _ _ domains objects (maps .0 .line) (lists .0) first second third,
+          words-told _ _ _ (pre .0) (pre .1 .1 .0) _ _ _ _ _ _ _ domains objects (maps .0 .line) (lists .0) first second third _ _ _ _ _ _ (maps .0) (lists .1),
+        ),
       ),
     )
 
@@ -63,11 +75,13 @@ index-names-spec =
     domains-line-requires
     objects-line-requires
     index-maps-requires
-    lists-line-requires
+    word-lists-requires
     earlier-requires
     earlier-requires-2
     earlier-requires-3
     same-length
     same-length-2
     same-length-3
+    same-length-4
+    same-length-5
     returns)

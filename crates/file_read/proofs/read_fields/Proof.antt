@@ -1,5 +1,5 @@
 -- 6, then 7, and then the rules that are left.
-use Rattle.file_read.proofs.Asked.{over-fits, twice-fits, no-over, names-distinct, maps-known, fresh-domains, fresh-members}
+use Rattle.file_read.proofs.Asked.{over-fits, twice-fits, no-over, words-room, starts-room, words-known, objects-known, subjects-known, functions-known, fresh-domains, fresh-members}
 use Rattle.file_read.proofs.Ruling.{over-answers, over-leaves, twice-answers, twice-leaves, named-answers, named-leaves}
 use borrow.Author.Needs.{needs}
 use Rattle.file_read.proofs.read_fields.Statement.{statement}
@@ -32,14 +32,34 @@ slice-aggregate-index-names-2 c = search needs
 slice-aggregate-index-names-3 : tie.Need-slice-aggregate-index-names-3
 slice-aggregate-index-names-3 c = search needs
 
+slice-aggregate-index-names-4 : tie.Need-slice-aggregate-index-names-4
+slice-aggregate-index-names-4 c = search needs
+
+slice-aggregate-index-names-5 : tie.Need-slice-aggregate-index-names-5
+slice-aggregate-index-names-5 c = search needs
+
 index-names-requires : tie.Need-index-names-requires
-index-names-requires c κs = (search needs, (search (needs, no-over), (search (needs, fresh-domains), (search (needs, fresh-domains), search (needs, fresh-members)))))
+index-names-requires c κs = (
+  search needs,
+  (
+    (search (needs, words-room), search (needs, starts-room)),
+    (search (needs, no-over), (search (needs, fresh-domains), (search (needs, fresh-domains), search (needs, fresh-members)))),
+  ),
+)
 
 refused-requires-2 : tie.Need-refused-requires-2
 refused-requires-2 c κs = search (needs, twice-fits)
 
 returns-2 : tie.Need-returns-2
-returns-2 c = search (needs, twice-answers, twice-leaves)
+returns-2 c =
+    let over = c .before .before .before .before .before .before .before .before .before .before .before .before .before .before .over-limit .ensures in
+    let none = c .before .before .before .before .before .before .before .before .before .before .before .before .before .if1 .left in
+    let names = c .before .before .before .before .before .before .before .index-names .ensures in
+    let twice = c .before .if2 .taken in (
+      twice-answers _ _ over none _ (names .0) twice _ (c .refused2 .ensures),
+      twice-leaves _ _ over none _ (names .0) twice _ (c .before .before .before .before .before .before .before .before .before .before .before .before
+          .before .before .before .before .before .before .pre .1 .1 .1 .0),
+    )
 
 slice-aggregate-read-named : tie.Need-slice-aggregate-read-named
 slice-aggregate-read-named c = search needs
@@ -51,13 +71,58 @@ slice-aggregate-read-named-3 : tie.Need-slice-aggregate-read-named-3
 slice-aggregate-read-named-3 c = search needs
 
 read-named-requires : tie.Need-read-named-requires
-read-named-requires c κs = (search needs, (search needs, (search needs, (search (needs, no-over), (search (needs, names-distinct), (search (needs, maps-known), (search needs, search needs)))))))
+read-named-requires c κs = let names = c .before .before .before .before .before .before .before .before .before
+    .before .index-names .ensures in let once = c .before .before .before .before .if2 .left in (
+      search needs,
+      (
+        search needs,
+        (
+          search needs,
+          (
+            search (needs, no-over),
+            (
+              (
+                objects-known _ _ once _ _ _ _ (names .1 .0) (names .1 .1 .0),
+                subjects-known _ _ once _ _ _ _ (names .1 .0) (names .1 .1 .0),
+                functions-known _ _ once _ _ _ _ (names .1 .0),
+              ),
+              (
+                search (needs, words-known),
+                (
+                  search (
+                    needs,
+                    c .before .before .before .before .before .before .before .before .before .before .before
+                        .before .before .before .before .before .before .before .before .before .before .pre,
+                  ),
+                  search (
+                    needs,
+                    c .before .before .before .before
+                        .before .before .before .before .before .before .before .before .before .before .before .before .before .before .before .before .before .pre,
+                  ),
+                ),
+              ),
+            ),
+          ),
+        ),
+      ),
+    )
 
 same-length : tie.Need-same-length
 same-length c = search needs
 
 returns-3 : tie.Need-returns-3
-returns-3 c = search (needs, named-answers, named-leaves)
+returns-3 c =
+    let over = c .before .before .before .before .before .before .before .before .before .before .before .before .before .before .before .before .before
+    .before .before .before .over-limit .ensures in
+    let none = c .before .before .before .before .before .before .before .before .before .before .before .before .before .before .before .before .before
+    .before .before .if1 .left in
+    let names = c .before .before .before .before .before .before .before .before .before .before .before .before .before .index-names .ensures in
+    let once = c .before .before .before .before .before .before .before .if2 .left in
+    let left = c .before .before .read-named .ensures in (
+      named-answers _ _ over none _ (names .0) once _ (left .0),
+      named-leaves _ _ over none _ (names .0) once (c .before .before .before .before .before .before .before .before .before .before .before .before
+          .before .before .before .before .before .before .before .before .before .before .before .before .args .table .now) _ (left .1),
+    )
 
 pub read-fields-spec : {M : Type 1} → statement M
 read-fields-spec =
@@ -72,6 +137,8 @@ read-fields-spec =
     slice-aggregate-index-names
     slice-aggregate-index-names-2
     slice-aggregate-index-names-3
+    slice-aggregate-index-names-4
+    slice-aggregate-index-names-5
     index-names-requires
     refused-requires-2
     returns-2

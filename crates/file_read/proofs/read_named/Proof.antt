@@ -6,7 +6,7 @@ use Rattle.file_read.proofs.read_named.Statement.{statement}
 use Rattle.file_read.proofs.read_named.Tie as tie
 
 unknown-line-requires : tie.Need-unknown-line-requires
-unknown-line-requires c κs = search needs
+unknown-line-requires c κs = (search needs, (search needs, ((search needs, search needs, search needs), search needs)))
 
 refused-requires : tie.Need-refused-requires
 refused-requires c κs = search (needs, unknown-fits)
@@ -33,7 +33,7 @@ returns-3 : tie.Need-returns-3
 returns-3 c = search (needs, twin-answers, twin-leaves)
 
 write-table-requires : tie.Need-write-table-requires
-write-table-requires c κs = ((search needs, search needs), (search needs, ((search needs, search needs), ((search needs, search needs, search needs), (search needs, search needs)))))
+write-table-requires c κs = ((search needs, search needs), (search needs, ((search needs, search needs, search needs), ((search needs, search needs, search needs), (search needs, search needs)))))
 
 same-length : tie.Need-same-length
 same-length c = search needs

@@ -1,5 +1,5 @@
 -- `all` is one descriptor with nothing written in it; else the items are.
-use Rattle.file_table.proofs.Accessed.{none-spaced, none-short, all-room, all-part, all-unwritten, all-filled, items-room, items-filled}
+use Rattle.file_table.proofs.Accessed.{none-short, all-room, all-part, all-unwritten, all-filled, items-room, items-filled}
 use borrow.Author.Needs.{needs}
 use Rattle.file_table.proofs.write_access.Statement.{statement}
 use Rattle.file_table.proofs.write_access.Tie as tie
@@ -24,7 +24,7 @@ slice-aggregate-write-descriptor c = search (needs, all-part)
 
 write-descriptor-requires : tie.Need-write-descriptor-requires
 write-descriptor-requires c κs =
-    ((search needs, search needs), (search needs, (search needs, (search needs, (search needs, (search (needs, none-spaced), (search (needs, none-short), search (needs, all-unwritten))))))))
+    ((search needs, search needs), (search needs, (search needs, ((search needs, search needs), (search needs, (search (needs, none-short), search (needs, all-unwritten)))))))
 
 same-length : tie.Need-same-length
 same-length c = search needs

@@ -8,10 +8,10 @@ use Rattle.file_table.proofs.write_descriptors.Statement.{statement}
 use Rattle.file_table.proofs.write_descriptors.Tie as tie
 
 abbrev Inv-loop : tie.InvT-loop
-Inv-loop t list n objectIx objects functionIx functions out₀ d₀ from₀ out d from = DescriptorsWritten t list n from d out
+Inv-loop t list n words starts objects out₀ d₀ from₀ out d from = DescriptorsWritten t list n from d out
 
 abbrev μ-loop : tie.MeasureT-loop
-μ-loop t list n objectIx objects functionIx functions out₀ d₀ from₀ out d from = n - from
+μ-loop t list n words starts objects out₀ d₀ from₀ out d from = n - from
 
 next-at-requires : tie.Need-next-at-requires Inv-loop μ-loop
 next-at-requires c κs = search needs

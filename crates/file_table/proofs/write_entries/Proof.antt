@@ -1,17 +1,17 @@
 -- The loop: k entries are written, those before field `from`.
 use Prim.Native.Nat.{_-_}
 use Rattle.file_fields.proofs.Walking.{walk-within, walk-less}
-use Rattle.file_table.proofs.Entered.{EntriesWritten, entries-begin, entry-end, entry-unwritten, entry-spaced, entry-short, entry-reads}
+use Rattle.file_table.proofs.Entered.{EntriesWritten, entries-begin, entry-end, entry-unwritten, entry-short, entry-reads}
 use Rattle.file_table.proofs.Entered.{entry-writes, entries-again, entries-length, entries-all}
 use borrow.Author.Needs.{needs}
 use Rattle.file_table.proofs.write_entries.Statement.{statement}
 use Rattle.file_table.proofs.write_entries.Tie as tie
 
 abbrev Inv-loop : tie.InvT-loop
-Inv-loop t list n subjectIx subjects functionIx functions out₀ k₀ from₀ out k from = EntriesWritten t list n from k out
+Inv-loop t list n words starts subjectIx subjects out₀ k₀ from₀ out k from = EntriesWritten t list n from k out
 
 abbrev μ-loop : tie.MeasureT-loop
-μ-loop t list n subjectIx subjects functionIx functions out₀ k₀ from₀ out k from = n - from
+μ-loop t list n words starts subjectIx subjects out₀ k₀ from₀ out k from = n - from
 
 next-at-requires : tie.Need-next-at-requires Inv-loop μ-loop
 next-at-requires c κs = search needs
@@ -50,16 +50,7 @@ write-entry-requires c κs = (
     search needs,
     (
       search needs,
-      (
-        search needs,
-        (
-          search (needs, entry-spaced),
-          (
-            search (needs, entry-short),
-            ((search (needs, entry-reads), search (needs, entry-writes)), search (needs, entry-unwritten)),
-          ),
-        ),
-      ),
+      (search needs, (search (needs, entry-short), ((search (needs, entry-reads), search (needs, entry-writes)), search (needs, entry-unwritten)))),
     ),
   ),
 )

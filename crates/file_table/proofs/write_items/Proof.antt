@@ -4,16 +4,16 @@ use lib.ListN.{length}
 use Rattle.file_fields.proofs.Places.{objects-fit}
 use Rattle.file_fields.proofs.Walking.{walk-less}
 use Rattle.file_table.proofs.Described.{ItemsWritten, items-begin, items-at-fits, items-end-fits, item-end, item-within, item-unwritten}
-use Rattle.file_table.proofs.Described.{item-spaced, item-short, items-number-fits, items-again, items-all}
+use Rattle.file_table.proofs.Described.{item-short, items-number-fits, items-again, items-all}
 use borrow.Author.Needs.{needs}
 use Rattle.file_table.proofs.write_items.Statement.{statement}
 use Rattle.file_table.proofs.write_items.Tie as tie
 
 abbrev Inv-loop : tie.InvT-loop
-Inv-loop t list n access from to objectIx objects functionIx functions out₀ d₀ i₀ out d i = ItemsWritten t list n access from to i d (length out₀) out
+Inv-loop t list n words starts access from to objects out₀ d₀ i₀ out d i = ItemsWritten t list n access from to i d (length out₀) out
 
 abbrev μ-loop : tie.MeasureT-loop
-μ-loop t list n access from to objectIx objects functionIx functions out₀ d₀ i₀ out d i = to - i
+μ-loop t list n words starts access from to objects out₀ d₀ i₀ out d i = to - i
 
 add-next-at : tie.Need-add-next-at Inv-loop μ-loop
 add-next-at c = search (needs, objects-fit)
@@ -58,7 +58,7 @@ write-descriptor-requires c κs = (
     search needs,
     (
       search needs,
-      (search needs, (search needs, (search (needs, item-spaced), (search (needs, item-short), search (needs, item-unwritten))))),
+      ((search needs, search needs), (search needs, (search (needs, item-short), search (needs, item-unwritten)))),
     ),
   ),
 )

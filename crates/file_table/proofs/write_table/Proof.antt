@@ -1,5 +1,5 @@
 -- The maps, the privileges behind them, and the head before them.
-use Rattle.file_table.proofs.Whole.{objects-few, functions-few, file-bounded, subjects-ready, objects-ready, maps-long, maps-unwritten}
+use Rattle.file_table.proofs.Whole.{objects-few, functions-few, file-bounded, file-ready, maps-long, maps-unwritten}
 use Rattle.file_table.proofs.Whole.{privileges-long, privileges-unwritten, members-few, entries-few, head-unwritten, table-written}
 use borrow.Author.Needs.{needs}
 use Rattle.file_table.proofs.write_table.Statement.{statement}
@@ -28,9 +28,9 @@ part-write-privileges-end c = search needs
 
 write-privileges-requires : tie.Need-write-privileges-requires
 write-privileges-requires c κs = (
-  search (needs, objects-ready),
+  (search (needs, file-ready), search needs),
   (
-    search (needs, subjects-ready),
+    (search (needs, file-ready), search needs),
     (
       search (needs, file-bounded),
       (
@@ -88,9 +88,11 @@ returns c =
     .before .before .before .before .before .before .before .before .pre .1 .1 .1 .1 .1) _
     (c .before .before .before .before .before .before .before .before .before .before .write-maps .ensures .1) _
     (c .before .before .before .before .before .before .write-privileges .ensures .1 .0)
-    (c .before .before .before .before .before .before .write-privileges .ensures .1 .1) _ _ _ _ _ _ _
+    (c .before .before .before .before .before .before .write-privileges .ensures .1 .1) _ _ _ _ _
     (c .before .before .before .before .before .before .before .before .before .before .before .before .before .before .before .before .before
-    .before .pre .1 .0) _ _ (c .before .before .before .before .before .before .before .before .before .before .write-maps .ensures .0)
+    .before .pre .1 .1 .0 .0) (c .before .before .before .before .before .before .before .before .before .before .before .before .before .before
+    .before .before .before .before .pre .1 .1 .0 .1) (c .before .before .before .before .before .before .before .before .before .before .before
+    .before .before .before .before .before .before .before .pre .1 .1 .0 .2) _ _ (c .before .before .before .before .before .before .before .before .before .before .write-maps .ensures .0)
     (c .before .before .before .before .before .before .write-privileges .ensures .0) _ (c .before .before .write-head .ensures)
 
 pub write-table-spec : {M : Type 1} → statement M

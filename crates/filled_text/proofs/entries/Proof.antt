@@ -6,7 +6,7 @@ use Rattle.paper.specs.Entries.{entriesOf}
 use Rattle.paper.specs.Filled.{entryText}
 use Rattle.file_fields.specs.Fields.{between}
 use Rattle.file_fields.proofs.Walking.{walk-order, walk-less}
-use Rattle.filled_text.proofs.Loops.{Walking, entries-begin, within-list, next-entry-room, texts-start, texts-fit, texts-again, texts-length, texts-done}
+use Rattle.filled_parts.proofs.Loops.{Walking, entries-begin, within-list, next-entry-room, texts-start, texts-fit, texts-again, texts-length, texts-done}
 use borrow.Author.Needs.{needs}
 use Rattle.filled_text.proofs.entries.Statement.{statement}
 use Rattle.filled_text.proofs.entries.Tie as tie

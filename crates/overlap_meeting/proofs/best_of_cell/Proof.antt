@@ -1,6 +1,6 @@
 -- Each arm is the clause of `bestWith` for its first elements.
 use borrow.Author.Needs.{needs}
-use Rattle.overlap_meeting.proofs.Chains.{no-frames}
+use Rattle.overlap_cells.proofs.Chains.{no-frames}
 use Rattle.overlap_meeting.proofs.Cells.{cell-both-all, cell-one-all, cell-other-all, cell-same, cell-apart}
 use Rattle.overlap_meeting.proofs.best_of_cell.Statement.{statement}
 use Rattle.overlap_meeting.proofs.best_of_cell.Tie as tie

@@ -4,8 +4,8 @@ use mathlib.Core.Path.{_≡_}
 use lib.ListN.{length}
 use borrow.Author.Needs.{needs}
 use Rattle.overlap_meeting.proofs.Cells.{none-filled, cell-filled, all-filled}
-use Rattle.overlap_meeting.proofs.OnlyAll.{both-end}
-use Rattle.overlap_meeting.specs.Cells.{filled, cells, Filled}
+use Rattle.overlap_cells.proofs.OnlyAll.{both-end}
+use Rattle.overlap_cells.specs.Cells.{filled, cells, Filled}
 use Rattle.overlap_meeting.proofs.fill_cells.Statement.{statement}
 use Rattle.overlap_meeting.proofs.fill_cells.Tie as tie
 

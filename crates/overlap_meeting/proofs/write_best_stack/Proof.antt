@@ -3,7 +3,7 @@ use mathlib.Core.Path.{refl}
 use borrow.Author.Needs.{needs}
 use Rattle.overlap_meeting.proofs.Ends.{none-written}
 use Rattle.overlap_meeting.proofs.Witness.{no-frames-yet, all-forward, frames-fit, best-written}
-use Rattle.overlap_meeting.specs.Cells.{cells}
+use Rattle.overlap_cells.specs.Cells.{cells}
 use Rattle.overlap_meeting.proofs.write_best_stack.Statement.{statement}
 use Rattle.overlap_meeting.proofs.write_best_stack.Tie as tie
 

@@ -4,9 +4,9 @@ use mathlib.Core.Path.{_≡_}
 use mathlib.Core.List.{_++_}
 use lib.ListN.{length, take, drop}
 use borrow.Author.Needs.{needs}
-use Rattle.overlap_meeting.proofs.Chains.{rest-inside}
+use Rattle.overlap_cells.proofs.Chains.{rest-inside}
 use Rattle.overlap_meeting.proofs.Writing.{no-frame-written, frame-written, frames-left, frames-written}
-use Rattle.overlap_meeting.specs.Cells.{cells, stackAt}
+use Rattle.overlap_cells.specs.Cells.{cells, stackAt}
 use Rattle.overlap_meeting.proofs.write_frames.Statement.{statement}
 use Rattle.overlap_meeting.proofs.write_frames.Tie as tie
 

@@ -6,8 +6,8 @@ use Rattle.paper.specs.Text.{linesFrom}
 use Rattle.paper.specs.Page.{pageFrom}
 use Rattle.text_page.specs.Steps.{stateOf}
 use Rattle.text_page.specs.Walk.{nextIn, nextLeft, pageLeft}
-use Rattle.text_page.proofs.Walking.{part-from, part-to, walk-less, walk-line, walk-on, walk-further, walk-stays, line-fits, start-fits, start-end, next-skip, next-stop}
-use Rattle.text_page.proofs.Walking.{next-field, next-ends, page-skip, page-stop, page-field, page-ends, ends-within}
+use Rattle.text_page.proofs.Walking.{part-from, part-to, walk-less, walk-line, walk-on, walk-further, walk-value, walk-stays, line-fits, start-fits}
+use Rattle.text_page.proofs.Walking.{start-end, next-skip, next-stop, next-field, next-ends, page-skip, page-stop, page-field, page-ends, ends-within}
 use borrow.Author.Needs.{needs}
 use Rattle.text_page.proofs.next_field.Statement.{statement}
 use Rattle.text_page.proofs.next_field.Tie as tie
@@ -56,7 +56,17 @@ returns : tie.Need-returns Inv-loop μ-loop
 unfolding nextLeft pageLeft
 returns c = (
   search (needs, next-field),
-  (search (needs, page-field), (search (needs, start-end), search (needs, part-to), search (needs, walk-further), search (needs, walk-stays), search (needs, walk-line))),
+  (
+    search (needs, page-field),
+    (
+      search (needs, start-end),
+      search (needs, part-to),
+      search (needs, walk-further),
+      search (needs, walk-stays),
+      search (needs, walk-line),
+      search (needs, walk-value),
+    ),
+  ),
 )
 
 enum-known-number : tie.Need-enum-known-number Inv-loop μ-loop

@@ -1,42 +1,48 @@
--- The loop: the commas counted and those left are all.
+-- The loop: the commas of the blocks passed and those left are all.
 use mathlib.Core.Path.{_≡_}
-use Prim.Native.Nat.{_+_, _-_, _≤_}
+use Prim.Native.Nat.{_+_, _-_}
 use lib.ListN.{length, drop}
 use Rattle.file_fields.specs.Values.{commas}
-use Rattle.file_fields.proofs.Valued.{commas-more, commas-done, count-keeps-low, commas-fit}
+use Rattle.file_fields.proofs.Valued.{commas-done, commas-low, block-short, blocks-on, blocks-fit}
 use borrow.Author.Needs.{needs}
 use Rattle.file_fields.proofs.values.comma_count.Statement.{statement}
 use Rattle.file_fields.proofs.values.comma_count.Tie as tie
 
 abbrev Inv-loop : tie.InvT-loop
-Inv-loop s count₀ i₀ count i = (count ≤ i) × (i ≤ length s) × (count + commas (drop i s) ≡ commas s)
+Inv-loop s count₀ at₀ count at = count + commas (drop at s) ≡ commas s
 
 abbrev μ-loop : tie.MeasureT-loop
-μ-loop s count₀ i₀ count i = length s - i
+μ-loop s count₀ at₀ count at = length s - at
 
 loop-holds : tie.Need-loop-holds Inv-loop μ-loop
 loop-holds c = search needs
 
-shared-slice-read-one-if : tie.Need-shared-slice-read-one-if Inv-loop μ-loop
-shared-slice-read-one-if c = search needs
+add-part : tie.Need-add-part Inv-loop μ-loop
+add-part c = search needs
 
-one-if-requires : tie.Need-one-if-requires Inv-loop μ-loop
-one-if-requires c κs = search needs
+part-requires : tie.Need-part-requires Inv-loop μ-loop
+part-requires c κs = search needs
+
+block-commas-requires : tie.Need-block-commas-requires Inv-loop μ-loop
+block-commas-requires c κs = search (needs, block-short)
+
+cast-count : tie.Need-cast-count Inv-loop μ-loop
+cast-count c = search needs
 
 add-count : tie.Need-add-count Inv-loop μ-loop
-add-count c = search (needs, commas-fit)
+add-count c = search (needs, blocks-fit)
 
-add-i : tie.Need-add-i Inv-loop μ-loop
-add-i c = search needs
+add-at : tie.Need-add-at Inv-loop μ-loop
+add-at c = search needs
 
 loop-less : tie.Need-loop-less Inv-loop μ-loop
 loop-less c = search needs
 
 loop-again : tie.Need-loop-again Inv-loop μ-loop
-loop-again c = search (needs, count-keeps-low, commas-more)
+loop-again c = search (needs, blocks-on)
 
 returns : tie.Need-returns Inv-loop μ-loop
-returns c = search (needs, commas-done)
+returns c = search (needs, commas-done, commas-low)
 
 pub comma-count-spec : {M : Type 1} → statement M
 comma-count-spec =
@@ -45,10 +51,12 @@ comma-count-spec =
     Inv-loop
     μ-loop
     loop-holds
-    shared-slice-read-one-if
-    one-if-requires
+    add-part
+    part-requires
+    block-commas-requires
+    cast-count
     add-count
-    add-i
+    add-at
     loop-less
     loop-again
     returns)

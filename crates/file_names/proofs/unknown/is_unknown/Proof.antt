@@ -1,15 +1,8 @@
 -- By what the place asks for.
-use Rattle.file_names.proofs.Scanned.{field-spaced}
 use Rattle.file_names.proofs.Looked.{asks-subject, asks-subjects, asks-objects, asks-functions, asks-nothing}
 use borrow.Author.Needs.{needs}
 use Rattle.file_names.proofs.unknown.is_unknown.Statement.{statement}
 use Rattle.file_names.proofs.unknown.is_unknown.Tie as tie
-
-value-of-requires : tie.Need-value-of-requires
-value-of-requires c κs = search needs
-
-inside-requires : tie.Need-inside-requires
-inside-requires c κs = search needs
 
 place-of-requires : tie.Need-place-of-requires
 place-of-requires c κs = search needs
@@ -20,26 +13,41 @@ sought-at-requires c κs = search needs
 enum-told : tie.Need-enum-told
 enum-told c = search needs
 
-is-known-requires : tie.Need-is-known-requires
-is-known-requires c κs = search needs
+value-of-requires : tie.Need-value-of-requires
+value-of-requires c κs = search needs
+
+number-in-requires : tie.Need-number-in-requires
+number-in-requires c κs = search needs
 
 enum-told-2 : tie.Need-enum-told-2
 enum-told-2 c = search needs
 
-all-known-requires : tie.Need-all-known-requires
-all-known-requires c κs = search (needs, field-spaced)
+words-of-requires : tie.Need-words-of-requires
+words-of-requires c κs = search needs
+
+all-below-requires : tie.Need-all-below-requires
+all-below-requires c κs = search needs
 
 enum-told-3 : tie.Need-enum-told-3
 enum-told-3 c = search needs
 
-all-known-requires-2 : tie.Need-all-known-requires-2
-all-known-requires-2 c κs = search (needs, field-spaced)
+words-of-requires-2 : tie.Need-words-of-requires-2
+words-of-requires-2 c κs = search needs
+
+all-below-requires-2 : tie.Need-all-below-requires-2
+all-below-requires-2 c κs = search needs
 
 enum-told-4 : tie.Need-enum-told-4
 enum-told-4 c = search needs
 
-all-known-requires-3 : tie.Need-all-known-requires-3
-all-known-requires-3 c κs = search (needs, field-spaced)
+words-of-requires-3 : tie.Need-words-of-requires-3
+words-of-requires-3 c κs = search needs
+
+add-all-below : tie.Need-add-all-below
+add-all-below c = search needs
+
+all-below-requires-3 : tie.Need-all-below-requires-3
+all-below-requires-3 c κs = search needs
 
 enum-told-5 : tie.Need-enum-told-5
 enum-told-5 c = search needs
@@ -63,18 +71,21 @@ pub is-unknown-spec : {M : Type 1} → statement M
 is-unknown-spec =
     tie.close
     (tie.spec
-    value-of-requires
-    inside-requires
     place-of-requires
     sought-at-requires
     enum-told
-    is-known-requires
+    value-of-requires
+    number-in-requires
     enum-told-2
-    all-known-requires
+    words-of-requires
+    all-below-requires
     enum-told-3
-    all-known-requires-2
+    words-of-requires-2
+    all-below-requires-2
     enum-told-4
-    all-known-requires-3
+    words-of-requires-3
+    add-all-below
+    all-below-requires-3
     enum-told-5
     returns
     returns-2

@@ -1,0 +1,3 @@
+pub mod Things
+pub mod Words
+pub mod Elements

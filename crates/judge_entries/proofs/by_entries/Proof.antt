@@ -1,0 +1,38 @@
+-- The entries from the first that matches on decide.
+use Rattle.judge_entries.proofs.Passes.{no-entry-matches, none-of-them-grants, one-grants}
+use borrow.Author.Needs.{needs}
+use Rattle.judge_entries.proofs.by_entries.Statement.{statement}
+use Rattle.judge_entries.proofs.by_entries.Tie as tie
+
+count-requires : tie.Need-count-requires
+count-requires c κs = search needs
+
+first-match-requires : tie.Need-first-match-requires
+first-match-requires c κs = search needs
+
+returns : tie.Need-returns
+returns c = search (needs, no-entry-matches)
+
+first-granting-requires : tie.Need-first-granting-requires
+first-granting-requires c κs = search needs
+
+returns-2 : tie.Need-returns-2
+returns-2 c = search (needs, none-of-them-grants)
+
+cast-t9 : tie.Need-cast-t9
+cast-t9 c = search needs
+
+returns-3 : tie.Need-returns-3
+returns-3 c = search (needs, one-grants)
+
+pub by-entries-spec : {M : Type 1} → statement M
+by-entries-spec =
+    tie.close
+    (tie.spec
+    count-requires
+    first-match-requires
+    returns
+    first-granting-requires
+    returns-2
+    cast-t9
+    returns-3)

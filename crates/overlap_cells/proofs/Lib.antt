@@ -1,0 +1,3 @@
+pub mod OnlyAll
+pub mod Beginnings
+pub mod Chains
