@@ -13,7 +13,6 @@ use Rattle.file_fields.specs.Listed.{mostFields}
 use Rattle.file_index.specs.Words.{multiplierAt, namesAt, nameSize}
 use Rattle.file_index.specs.Maps.{Maps}
 use Rattle.file_index.proofs.Known.{index-cleared}
-use Rattle.file_words.specs.Words.{numbersOf, Worded}
 use Rattle.file_names.specs.Naming.{Sound}
 use Rattle.file_names.specs.Mapping.{Fresh, Distinct}
 use Rattle.file_names.specs.declared.Names.{Names}
@@ -73,9 +72,6 @@ no-over fs over e z = sym e ∙ z
 -- ---- 7 names no line
 
 module _ (fs : List Field) (names : Names) (once : names .twice ≡ 0) where
-  pub words-known : (t list words starts : List ℕ) (n : ℕ) → (names .twice ≡ 0 → Worded (numbersOf fs) t list n words starts) → Worded (numbersOf fs) t list n words starts
-  words-known t list words starts n known = known once
-
   module _ (t objectIx subjectIx functionIx : List ℕ)
       (known : names .twice ≡ 0 → Maps t fs objectIx subjectIx functionIx (names .objects) (names .subjects) (names .functions)) where
     pub objects-known : (names .twice ≡ 0 → Distinct fs) → OfObjects (names .objects) fs

@@ -14,7 +14,7 @@ use Rattle.paper.specs.Policy.{policyOf}
 use Rattle.paper.specs.Table.{wordsOf}
 use Rattle.paper.specs.Rules.{unlessLine, overLimit, namedTwice, unknownName, unboundVariable, twinPrincipal, ruled}
 use Rattle.paper.specs.Promises.{textPage, fileOf, readingOf, readAnswer, wordsRead, readLeaves}
-use Rattle.file_read.specs.Ruled.{namesRuled}
+use Rattle.file_read.specs.Ruled.{knownRuled, namesRuled}
 
 unless-fault : (k line : ℕ) (o : Outcome) → (line ≡ 0 → ⊥) → unlessLine k line o ≡ fault k line
 unfolding unlessLine
@@ -37,6 +37,14 @@ module _ (o : Outcome) (k line : ℕ) (e : o ≡ fault k line) where
 
   leaves : (table : List ℕ) → take tableWords table ≡ replicate tableWords 0 → table ≡ wordsRead o ++ drop tableWords table
   leaves table z = rw e (zero-front tableWords table z)
+
+-- an outcome that is another one's
+module _ (o p : Outcome) (e : o ≡ p) where
+  answers-on : (r : Reading) → r ≡ readingOf p → r ≡ readingOf o
+  answers-on r q = q ∙ sym (ap readingOf e)
+
+  leaves-on : (table after : List ℕ) → after ≡ wordsRead p ++ drop tableWords table → after ≡ wordsRead o ++ drop tableWords table
+  leaves-on table after q = q ∙ rw e refl
 
 -- ---- 6, then 7
 
@@ -66,16 +74,16 @@ module _ (fs : List Field) (over : ℕ) (e : over ≡ overLimit fs) where
 
     module _ (once : twice ≡ 0) where
       names-left : ruled fs ≡ namesRuled fs
-      unfolding ruled namesRuled
+      unfolding ruled namesRuled knownRuled
       names-left = rw (← e, ← f, unless-passed 6 over _ none, unless-passed 7 twice _ once) refl
 
       pub named-answers : (r : Reading) → r ≡ readingOf (namesRuled fs) → r ≡ readingOf (ruled fs)
-      named-answers r q = q ∙ sym (ap readingOf names-left)
+      named-answers = answers-on (ruled fs) (namesRuled fs) names-left
 
       pub named-leaves : (table after : List ℕ) → after ≡ wordsRead (namesRuled fs) ++ drop tableWords table → after ≡ wordsRead (ruled fs) ++ drop tableWords table
-      named-leaves table after q = q ∙ rw names-left refl
+      named-leaves = leaves-on (ruled fs) (namesRuled fs) names-left
 
--- ---- 8, then 10, then 11, then the words
+-- ---- 8
 
 module _ (fs : List Field) (unknown : ℕ) (e : unknown ≡ unknownName fs) where
   module _ (n : unknown ≡ 0 → ⊥) where
@@ -89,40 +97,53 @@ module _ (fs : List Field) (unknown : ℕ) (e : unknown ≡ unknownName fs) wher
     pub unknown-leaves : (table : List ℕ) → take tableWords table ≡ replicate tableWords 0 → table ≡ wordsRead (namesRuled fs) ++ drop tableWords table
     unknown-leaves table z = leaves (namesRuled fs) 8 unknown refused-unknown table z
 
-  module _ (known : unknown ≡ 0) (unbound : ℕ) (f : unbound ≡ unboundVariable fs) where
-    module _ (n : unbound ≡ 0 → ⊥) where
-      refused-unbound : namesRuled fs ≡ fault 10 unbound
-      unfolding namesRuled
-      refused-unbound = rw (← e, ← f, unless-passed 8 unknown _ known) (unless-fault 10 unbound _ n)
+  module _ (known : unknown ≡ 0) where
+    known-left : namesRuled fs ≡ knownRuled fs
+    unfolding namesRuled
+    known-left = rw (← e) (unless-passed 8 unknown _ known)
 
-      pub unbound-answers : (r : Reading) → r ≡ Unread 10 unbound → r ≡ readingOf (namesRuled fs)
-      unbound-answers r q = answers (namesRuled fs) 10 unbound refused-unbound r q
+    pub known-answers : (r : Reading) → r ≡ readingOf (knownRuled fs) → r ≡ readingOf (namesRuled fs)
+    known-answers = answers-on (namesRuled fs) (knownRuled fs) known-left
 
-      pub unbound-leaves : (table : List ℕ) → take tableWords table ≡ replicate tableWords 0 → table ≡ wordsRead (namesRuled fs) ++ drop tableWords table
-      unbound-leaves table z = leaves (namesRuled fs) 10 unbound refused-unbound table z
+    pub known-leaves : (table after : List ℕ) → after ≡ wordsRead (knownRuled fs) ++ drop tableWords table → after ≡ wordsRead (namesRuled fs) ++ drop tableWords table
+    known-leaves = leaves-on (namesRuled fs) (knownRuled fs) known-left
 
-    module _ (bound : unbound ≡ 0) (twin : ℕ) (g : twin ≡ twinPrincipal fs) where
-      module _ (n : twin ≡ 0 → ⊥) where
-        refused-twin : namesRuled fs ≡ fault 11 twin
-        unfolding namesRuled
-        refused-twin = rw (← e, ← f, ← g, unless-passed 8 unknown _ known, unless-passed 10 unbound _ bound) (unless-fault 11 twin _ n)
+-- ---- 10, then 11, then the words
 
-        pub twin-answers : (r : Reading) → r ≡ Unread 11 twin → r ≡ readingOf (namesRuled fs)
-        twin-answers r q = answers (namesRuled fs) 11 twin refused-twin r q
+module _ (fs : List Field) (unbound : ℕ) (f : unbound ≡ unboundVariable fs) where
+  module _ (n : unbound ≡ 0 → ⊥) where
+    refused-unbound : knownRuled fs ≡ fault 10 unbound
+    unfolding knownRuled
+    refused-unbound = rw (← f) (unless-fault 10 unbound _ n)
 
-        pub twin-leaves : (table : List ℕ) → take tableWords table ≡ replicate tableWords 0 → table ≡ wordsRead (namesRuled fs) ++ drop tableWords table
-        twin-leaves table z = leaves (namesRuled fs) 11 twin refused-twin table z
+    pub unbound-answers : (r : Reading) → r ≡ Unread 10 unbound → r ≡ readingOf (knownRuled fs)
+    unbound-answers r q = answers (knownRuled fs) 10 unbound refused-unbound r q
 
-      module _ (alone : twin ≡ 0) where
-        holds : namesRuled fs ≡ fields fs
-        unfolding namesRuled
-        holds = rw (← e, ← f, ← g, unless-passed 8 unknown _ known, unless-passed 10 unbound _ bound) (unless-passed 11 twin _ alone)
+    pub unbound-leaves : (table : List ℕ) → take tableWords table ≡ replicate tableWords 0 → table ≡ wordsRead (knownRuled fs) ++ drop tableWords table
+    unbound-leaves table z = leaves (knownRuled fs) 10 unbound refused-unbound table z
 
-        pub accepts : Accepted ≡ readingOf (namesRuled fs)
-        accepts = rw holds refl
+  module _ (bound : unbound ≡ 0) (twin : ℕ) (g : twin ≡ twinPrincipal fs) where
+    module _ (n : twin ≡ 0 → ⊥) where
+      refused-twin : knownRuled fs ≡ fault 11 twin
+      unfolding knownRuled
+      refused-twin = rw (← f, ← g, unless-passed 10 unbound _ bound) (unless-fault 11 twin _ n)
 
-        pub writes : (table after : List ℕ) → after ≡ wordsOf (policyOf fs) ++ drop tableWords table → after ≡ wordsRead (namesRuled fs) ++ drop tableWords table
-        writes table after q = q ∙ rw holds refl
+      pub twin-answers : (r : Reading) → r ≡ Unread 11 twin → r ≡ readingOf (knownRuled fs)
+      twin-answers r q = answers (knownRuled fs) 11 twin refused-twin r q
+
+      pub twin-leaves : (table : List ℕ) → take tableWords table ≡ replicate tableWords 0 → table ≡ wordsRead (knownRuled fs) ++ drop tableWords table
+      twin-leaves table z = leaves (knownRuled fs) 11 twin refused-twin table z
+
+    module _ (alone : twin ≡ 0) where
+      holds : knownRuled fs ≡ fields fs
+      unfolding knownRuled
+      holds = rw (← f, ← g, unless-passed 10 unbound _ bound) (unless-passed 11 twin _ alone)
+
+      pub accepts : Accepted ≡ readingOf (knownRuled fs)
+      accepts = rw holds refl
+
+      pub writes : (table after : List ℕ) → after ≡ wordsOf (policyOf fs) ++ drop tableWords table → after ≡ wordsRead (knownRuled fs) ++ drop tableWords table
+      writes table after q = q ∙ rw holds refl
 
 -- ---- a text, with a table that has room or has not
 

@@ -1,2 +1,3 @@
 pub mod Readable
 pub mod Ruled
+pub mod Numbered

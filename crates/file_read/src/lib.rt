@@ -24,15 +24,14 @@ ghost use Prim.Native.Nat.{_≤_};
 ghost use lib.ListN.{length, take, drop, replicate};
 ghost use Rattle.paper.specs.declared.Reading.the-variants.{Unread};
 ghost use Rattle.paper.specs.Limits.{textBytes, tableWords};
-ghost use Rattle.paper.specs.Rules.{overLimit, ruled};
+ghost use Rattle.paper.specs.Rules.{ruled};
 ghost use Rattle.paper.specs.Promises.{fileOf, readingOf, wordsRead, readAnswer, readLeaves};
 ghost use Rattle.file_fields.specs.Fields.{between};
 ghost use Rattle.file_fields.specs.Listed.{mostFields};
-ghost use Rattle.file_words.specs.Words.{numbersOf, Worded};
-ghost use Rattle.file_table.specs.Ready.{OfObjects, OfSubjects, OfFunctions};
 ghost use Rattle.file_names.specs.Naming.{Sound};
 ghost use Rattle.file_read.specs.Readable.{Readable};
-ghost use Rattle.file_read.specs.Ruled.{namesRuled};
+ghost use Rattle.file_read.specs.Ruled.{knownRuled, namesRuled};
+ghost use Rattle.file_read.specs.Numbered.{Numbered};
 
 // Room for the domains of one map in an index.
 const DOMAINS_SIZE: usize = layout::NAMES_AT + layout::NAME_SIZE * limit::DOMAINS;
@@ -47,8 +46,8 @@ fn refused(number: u16, line: usize) -> Reading
     }
 }
 
-// 8, 10 and 11, and then the table, of a file whose names are numbered.
-fn read_named(
+// 10 and 11, and then the table, of a file that names nothing unknown.
+fn read_known(
     t: &[u8],
     list: &[usize],
     n: usize,
@@ -58,36 +57,12 @@ fn read_named(
     starts: &[usize],
     table: &mut [u16],
 ) -> Reading
-    requires { ⌜ Sound (now t) (now list) n ⌝ }
-    requires { ⌜ n ≤ mostFields ⌝ }
-    requires { ⌜ Readable (between (now t) (now list) 0 n) ⌝ }
-    requires { ⌜ overLimit (between (now t) (now list) 0 n) ≡ 0 ⌝ }
-    requires { ⌜ OfObjects (names .objects) (between (now t) (now list) 0 n)
-        × OfSubjects (now t) (now «subjects_ix») (names .subjects) (between (now t) (now list) 0 n)
-        × OfFunctions (names .functions) (between (now t) (now list) 0 n) ⌝ }
-    requires { ⌜ Worded (numbersOf (between (now t) (now list) 0 n)) (now t) (now list) n (now words) (now starts) ⌝ }
+    requires { ⌜ Numbered (now t) (now list) n (now «subjects_ix») names (now words) (now starts) ⌝ }
     requires { ⌜ take tableWords (now table) ≡ replicate tableWords 0 ⌝ }
     requires { ⌜ tableWords ≤ length (now table) ⌝ }
-    ensures { λ r. ⌜ r ≡ readingOf (namesRuled (between (now (t .entry)) (now (list .entry)) 0 n)) ⌝ }
-    ensures { λ r. ⌜ now (table .exit) ≡ wordsRead (namesRuled (between (now (t .entry)) (now (list .entry)) 0 n)) ++ drop tableWords (now (table .entry)) ⌝ }
+    ensures { λ r. ⌜ r ≡ readingOf (knownRuled (between (now (t .entry)) (now (list .entry)) 0 n)) ⌝ }
+    ensures { λ r. ⌜ now (table .exit) ≡ wordsRead (knownRuled (between (now (t .entry)) (now (list .entry)) 0 n)) ++ drop tableWords (now (table .entry)) ⌝ }
 {
-    let objects = names.objects;
-    let subjects = names.subjects;
-    let functions = names.functions;
-    let unknown = unknown_line(
-        t,
-        list,
-        n,
-        objects,
-        subjects_ix,
-        subjects,
-        functions,
-        words,
-        starts,
-    );
-    if unknown != NO_LINE {
-        return refused(refusal::UNKNOWN, unknown);
-    }
     let unbound = unbound_line(t, list, n);
     if unbound != NO_LINE {
         return refused(refusal::UNBOUND, unbound);
@@ -102,13 +77,47 @@ fn read_named(
         n,
         words,
         starts,
-        objects,
+        names.objects,
         subjects_ix,
-        subjects,
-        functions,
+        names.subjects,
+        names.functions,
         table,
     );
     Reading::Accepted
+}
+
+// 8, and then the rules that are left and the table, of a file whose names are numbered.
+fn read_named(
+    t: &[u8],
+    list: &[usize],
+    n: usize,
+    subjects_ix: &[usize],
+    names: Names,
+    words: &[u16],
+    starts: &[usize],
+    table: &mut [u16],
+) -> Reading
+    requires { ⌜ Numbered (now t) (now list) n (now «subjects_ix») names (now words) (now starts) ⌝ }
+    requires { ⌜ take tableWords (now table) ≡ replicate tableWords 0 ⌝ }
+    requires { ⌜ tableWords ≤ length (now table) ⌝ }
+    ensures { λ r. ⌜ r ≡ readingOf (namesRuled (between (now (t .entry)) (now (list .entry)) 0 n)) ⌝ }
+    ensures { λ r. ⌜ now (table .exit) ≡ wordsRead (namesRuled (between (now (t .entry)) (now (list .entry)) 0 n)) ++ drop tableWords (now (table .entry)) ⌝ }
+{
+    let unknown = unknown_line(
+        t,
+        list,
+        n,
+        names.objects,
+        subjects_ix,
+        names.subjects,
+        names.functions,
+        words,
+        starts,
+    );
+    if unknown != NO_LINE {
+        return refused(refusal::UNKNOWN, unknown);
+    }
+    read_known(t, list, n, subjects_ix, names, words, starts, table)
 }
 
 // The rules over the whole file, and then the table.

@@ -17,12 +17,11 @@ use Rattle.paper.specs.Entries.{isAtOne, callContexts, defaultAt, meant, valueA
 use Rattle.paper.specs.Rules.{longPattern}
 use Rattle.paper.specs.Policy.{contextOf, descriptorOf, entryOf}
 use Rattle.paper.specs.Table.{entrySize, descriptorSize, entryWords, descriptorWords}
-use Rattle.laws.proofs.Tests.{both-right}
 use Rattle.laws.proofs.Counting.{allOf-counted, counted-allOf}
 use Rattle.laws_table.proofs.Entries.{length-entry, length-descriptor}
 use Rattle.laws_file.proofs.Stretched.{value-holds}
 use Rattle.file_fields.specs.Places.{IsAccess}
-use Rattle.file_fields.specs.Fields.{fieldAt, between, wellSpaced}
+use Rattle.file_fields.specs.Fields.{fieldAt, between}
 use Rattle.file_table.specs.Ready.{fits, Ready}
 
 -- ---- the fields between two numbers
@@ -37,7 +36,7 @@ between-all test t list n i j h a b =
 short-field : (p : ℕ) → anyOf (eqb p) callContexts ≡ true → (f : Field) → fits f ≡ true → f .place ≡ p → length (elements (f .value)) ≤ mostElements
 unfolding fits longPattern isAtOne
 short-field p listed f h e =
-    let s : (anyOf (eqb (f .place)) callContexts && ltb mostElements (length (elements (f .value)))) ≡ false = not-true _ (both-right (wellSpaced f) _ h) in
+    let s : (anyOf (eqb (f .place)) callContexts && ltb mostElements (length (elements (f .value)))) ≡ false = not-true _ h in
     ltb-false mostElements (length (elements (f .value))) (rw (e, listed) at s)
 
 no-elements : length (elements (bytes "[]")) ≡ 0

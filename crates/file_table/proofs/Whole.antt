@@ -1,6 +1,6 @@
 -- The words of a file's policy are its blocks one behind the other, and each fits where it stands.
 use mathlib.Core.Path.{_≡_, refl, sym, ap, _∙_}
-use mathlib.Core.Bool.{true, not}
+use mathlib.Core.Bool.{true}
 use mathlib.Core.List.{List, [], _∷_, _++_, map, flatMap, append-assoc, append-nil}
 use Prim.Native.Nat.{ℕ, _+_, _*_, _≤_}
 use native.Mathlib.Omega.{arith}
@@ -12,17 +12,17 @@ use Rattle.paper.specs.Text.{noLine}
 use Rattle.paper.specs.Listing.{objectName, objectMembers, subjectName, subjectMembers, principal, canRead, canWrite}
 use Rattle.paper.specs.Page.{Field}
 use Rattle.paper.specs.Entries.{fieldsAt, entriesOf}
-use Rattle.paper.specs.Rules.{descriptorsIn, longPattern, overLimit, domainsAt, identifiersAt}
+use Rattle.paper.specs.Rules.{descriptorsIn, overLimit, domainsAt, identifiersAt}
 use Rattle.paper.specs.Policy.{accessOf, entryOf, memberDomains, policyOf}
 use Rattle.paper.specs.Table.{mark, headSize, objectsAt, entriesAt, entrySize, entriesSize, descriptorSize, descriptorsSize, padded, descriptorWords, wordsOf}
 use Rattle.laws.proofs.Counting.{flatMap-append}
 use Rattle.laws.proofs.Stretches.{length-padded}
 use Rattle.laws_page.specs.Right.{isNumbered}
 use Rattle.laws_file.specs.Accepted.{total}
-use Rattle.laws_file.proofs.Stretched.{allOf-both, stretches-counted}
+use Rattle.laws_file.proofs.Stretched.{stretches-counted}
 use Rattle.laws_file.proofs.Members.{members-length, members-counted}
 use Rattle.laws_file.proofs.Kept.{Counted, counted}
-use Rattle.file_fields.specs.Fields.{fieldSize, between, wellSpaced}
+use Rattle.file_fields.specs.Fields.{fieldSize, between}
 use Rattle.file_words.specs.Words.{numbersOf, Worded}
 use Rattle.file_table.specs.Blocks.{entryBlocks, accessBlocks, ownBlocks, descriptorBlocks, mapsSize, mapBlocks, privilegesSize, privilegeBlocks, Filled}
 use Rattle.file_table.specs.Ready.{fits, Ready, OfObjects, OfSubjects, OfFunctions, Bounded}
@@ -45,15 +45,15 @@ module _ (file : List Field) (numbered : allOf isNumbered file ≡ true) (limits
   unfolding entriesOf
   file-bounded = record { entries = rw (stretches-counted principal file) (within-limits .entries); descriptors = within-limits .descriptors }
 
-  file-fits : allOf wellSpaced file ≡ true → allOf fits file ≡ true
+  file-fits : allOf fits file ≡ true
   unfolding fits
-  file-fits spaced = allOf-both wellSpaced (λ f. not (longPattern f)) file spaced (within-limits .patterns)
+  file-fits = within-limits .patterns
 
 -- its fields fit where none is too long, and the words of their names are given
-module _ (t list : List ℕ) (n : ℕ) (words starts : List ℕ) (listed : fieldSize * n ≤ length list) (spaced : allOf wellSpaced (between t list 0 n) ≡ true)
+module _ (t list : List ℕ) (n : ℕ) (words starts : List ℕ) (listed : fieldSize * n ≤ length list)
     (numbered : allOf isNumbered (between t list 0 n) ≡ true) (limits : overLimit (between t list 0 n) ≡ noLine) where
   pub file-ready : Worded (numbersOf (between t list 0 n)) t list n words starts → Ready t list n words starts
-  file-ready worded = record { listed = listed; fit = file-fits (between t list 0 n) numbered limits spaced; worded = worded }
+  file-ready worded = record { listed = listed; fit = file-fits (between t list 0 n) numbered limits; worded = worded }
 
 -- ---- the words of its policy
 

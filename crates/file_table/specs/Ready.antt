@@ -2,7 +2,7 @@
 use Prim.Native.Nat.{ℕ, _*_, _≤_}
 use mathlib.Core.Path.{_≡_}
 use mathlib.Core.List.{List, []}
-use mathlib.Core.Bool.{Bool, true, false, not, _&&_}
+use mathlib.Core.Bool.{Bool, true, false, not}
 use lib.ListN.{length}
 use Rattle.paper.specs.Common.{allOf}
 use Rattle.paper.specs.Limits.{mostDomains, mostMembers, mostEntries, mostDescriptors}
@@ -11,13 +11,13 @@ use Rattle.paper.specs.Page.{Field}
 use Rattle.paper.specs.Entries.{entriesOf}
 use Rattle.paper.specs.Rules.{descriptorsIn, longPattern, domainsAt, identifiersAt, repeats}
 use Rattle.laws_file.specs.Accepted.{total}
-use Rattle.file_fields.specs.Fields.{fieldSize, between, wellSpaced}
+use Rattle.file_fields.specs.Fields.{fieldSize, between}
 use Rattle.file_index.specs.Maps.{Mapped}
 use Rattle.file_words.specs.Words.{numbersOf, Worded}
 
--- a field is spaced as a list is, and has no more elements than a pattern may have
+-- a pattern has no more elements than it may have
 unfoldable pub fits : Field → Bool
-fits f = wellSpaced f && not (longPattern f)
+fits f = not (longPattern f)
 
 -- its fields fit, and the words of their names are known
 pub record Ready (t list : List ℕ) (n : ℕ) (words starts : List ℕ) : Type 0 where

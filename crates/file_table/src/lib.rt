@@ -17,7 +17,7 @@ ghost use Rattle.paper.specs.Policy.{memberDomains, policyOf};
 ghost use Rattle.paper.specs.Table.{mark, headSize, entrySize, entriesSize, descriptorSize, descriptorsSize, padded, wordsOf};
 ghost use Rattle.laws_page.specs.Right.{isNumbered};
 ghost use Rattle.laws_file.specs.Accepted.{total};
-ghost use Rattle.file_fields.specs.Fields.{fieldSize, between, wellSpaced};
+ghost use Rattle.file_fields.specs.Fields.{fieldSize, between};
 ghost use Rattle.file_fields.specs.Listed.{mostFields};
 ghost use Rattle.file_fields.specs.Places.{IsAccess};
 ghost use Rattle.file_words.specs.Words.{numbersOf, Worded};
@@ -329,8 +329,8 @@ fn write_privileges(
     subjects: usize,
     out: &mut [u16],
 ) -> usize
-    requires { ⌜ Ready (now t) (now list) n (now words) (now starts) × OfObjects objects (between (now t) (now list) 0 n) ⌝ }
-    requires { ⌜ Ready (now t) (now list) n (now words) (now starts) × OfSubjects (now t) (now «subjects_ix») subjects (between (now t) (now list) 0 n) ⌝ }
+    requires { ⌜ Ready (now t) (now list) n (now words) (now starts) × OfObjects objects (between (now t) (now list) 0 n)
+        × OfSubjects (now t) (now «subjects_ix») subjects (between (now t) (now list) 0 n) ⌝ }
     requires { ⌜ Bounded (between (now t) (now list) 0 n) ⌝ }
     requires { ⌜ (length (now out) ≡ privilegesSize) × (now out ≡ replicate (length (now out)) 0) ⌝ }
     ensures { λ r. ⌜ r ≡ length (entriesOf (between (now (t .entry)) (now (list .entry)) 0 n)) ⌝ }
@@ -377,7 +377,7 @@ pub fn write_table(
     requires { ⌜ OfObjects objects (between (now t) (now list) 0 n)
         × OfSubjects (now t) (now «subjects_ix») subjects (between (now t) (now list) 0 n)
         × OfFunctions functions (between (now t) (now list) 0 n) ⌝ }
-    requires { ⌜ (allOf wellSpaced (between (now t) (now list) 0 n) ≡ true) × (allOf isNumbered (between (now t) (now list) 0 n) ≡ true) × (overLimit (between (now t) (now list) 0 n) ≡ noLine) ⌝ }
+    requires { ⌜ (allOf isNumbered (between (now t) (now list) 0 n) ≡ true) × (overLimit (between (now t) (now list) 0 n) ≡ noLine) ⌝ }
     requires { ⌜ (tableWords ≤ length (now table)) × (take tableWords (now table) ≡ replicate tableWords 0) ⌝ }
     ensures { λ r. ⌜ now (table .exit) ≡ wordsOf (policyOf (between (now (t .entry)) (now (list .entry)) 0 n)) ++ drop tableWords (now (table .entry)) ⌝ }
 {

@@ -1,5 +1,5 @@
 -- 6, then 7, and then the rules that are left.
-use Rattle.file_read.proofs.Asked.{over-fits, twice-fits, no-over, words-room, starts-room, words-known, objects-known, subjects-known, functions-known, fresh-domains, fresh-members}
+use Rattle.file_read.proofs.Asked.{over-fits, twice-fits, no-over, words-room, starts-room, objects-known, subjects-known, functions-known, fresh-domains, fresh-members}
 use Rattle.file_read.proofs.Ruling.{over-answers, over-leaves, twice-answers, twice-leaves, named-answers, named-leaves}
 use borrow.Author.Needs.{needs}
 use Rattle.file_read.proofs.read_fields.Statement.{statement}
@@ -71,40 +71,24 @@ slice-aggregate-read-named-3 : tie.Need-slice-aggregate-read-named-3
 slice-aggregate-read-named-3 c = search needs
 
 read-named-requires : tie.Need-read-named-requires
-read-named-requires c κs = let names = c .before .before .before .before .before .before .before .before .before
-    .before .index-names .ensures in let once = c .before .before .before .before .if2 .left in (
-      search needs,
-      (
-        search needs,
-        (
-          search needs,
-          (
-            search (needs, no-over),
-            (
-              (
-                objects-known _ _ once _ _ _ _ (names .1 .0) (names .1 .1 .0),
-                subjects-known _ _ once _ _ _ _ (names .1 .0) (names .1 .1 .0),
-                functions-known _ _ once _ _ _ _ (names .1 .0),
-              ),
-              (
-                search (needs, words-known),
-                (
-                  search (
-                    needs,
-                    c .before .before .before .before .before .before .before .before .before .before .before
-                        .before .before .before .before .before .before .before .before .before .before .pre,
-                  ),
-                  search (
-                    needs,
-                    c .before .before .before .before
-                        .before .before .before .before .before .before .before .before .before .before .before .before .before .before .before .before .before .pre,
-                  ),
-                ),
-              ),
-            ),
-          ),
-        ),
-      ),
+read-named-requires c κs =
+    let pre = c .before .before .before .before .before .before .before .before .before .before
+    .before .before .before .before .before .before .before .before .before .before .before .pre in
+    let over = c .before .before .before .before .before .before .before .before .before .before .before .before .before .before .before .before .before .over-limit .ensures in
+    let none = c .before .before .before .before .before .before .before .before .before .before .before .before .before .before .before .before .if1 .left in
+    let names = c .before .before .before .before .before .before .before .before .before .before .index-names .ensures in
+    let once = c .before .before .before .before .if2 .left in (
+      record {
+        sound = pre .0;
+        few = pre .1 .0;
+        readable = pre .1 .1 .0;
+        within = no-over _ _ over none;
+        of-objects = objects-known _ _ once _ _ _ _ (names .1 .0) (names .1 .1 .0);
+        of-subjects = subjects-known _ _ once _ _ _ _ (names .1 .0) (names .1 .1 .0);
+        of-functions = functions-known _ _ once _ _ _ _ (names .1 .0);
+        worded = names .1 .1 .1 once;
+      },
+      pre .1 .1 .1,
     )
 
 same-length : tie.Need-same-length

@@ -31,9 +31,9 @@ write-descriptors-requires c κs = (
   (
     search needs,
     descriptors-unwritten (c .before .before .before .before .before .before .before .before .before .before .before
-        .args .out .now) (c .before .before .before .before .before .before .before .before .before .before .before .pre .1 .1 .1 .0)
-        (c .before .before .before .before .before .before .before .before .before .before .before .pre .1 .1 .1 .1) _
-        (c .before .before .before .before .before .before .before .before .before .before .before .pre .1 .1 .0) _ _
+        .args .out .now) (c .before .before .before .before .before .before .before .before .before .before .before .pre .1 .1 .0)
+        (c .before .before .before .before .before .before .before .before .before .before .before .pre .1 .1 .1) _
+        (c .before .before .before .before .before .before .before .before .before .before .before .pre .1 .0) _ _
         (c .before .before .before .write-entries .ensures),
   ),
 )
@@ -47,13 +47,13 @@ returns c = (
   (
     privileges-written (c .before .before .before .before .before .before .before .before .before .before .before .before .before
         .before .args .out .now) (c .before .before .before .before .before .before .before .before .before .before .before .before .before .before
-        .pre .1 .1 .1 .0) (c .before .before .before .before .before .before .before .before .before .before .before .before .before .before .pre .1
-        .1 .1 .1) _ (c .before .before .before .before .before .before .before .before .before .before .before .before .before .before .pre .1 .1 .0)
+        .pre .1 .1 .0) (c .before .before .before .before .before .before .before .before .before .before .before .before .before
+        .before .pre .1 .1 .1) _ (c .before .before .before .before .before .before .before .before .before .before .before .before .before .before .pre .1 .0)
         _ _ (c .before .before .before .before .before .before .write-entries .ensures) _ _ (c .before .before .write-descriptors .ensures),
     privileges-size (c .before .before .before .before .before .before .before .before .before .before .before .before .before .before .args .out
-        .now) (c .before .before .before .before .before .before .before .before .before .before .before .before .before .before .pre .1 .1 .1 .0)
-        (c .before .before .before .before .before .before .before .before .before .before .before .before .before .before .pre .1 .1 .1 .1) _
-        (c .before .before .before .before .before .before .before .before .before .before .before .before .before .before .pre .1 .1 .0) _ _
+        .now) (c .before .before .before .before .before .before .before .before .before .before .before .before .before .before .pre .1 .1 .0)
+        (c .before .before .before .before .before .before .before .before .before .before .before .before .before .before .pre .1 .1 .1) _
+        (c .before .before .before .before .before .before .before .before .before .before .before .before .before .before .pre .1 .0) _ _
         (c .before .before .before .before .before .before .write-entries .ensures) _ _ (c .before .before .write-descriptors .ensures),
   ),
 )

@@ -28,20 +28,17 @@ part-write-privileges-end c = search needs
 
 write-privileges-requires : tie.Need-write-privileges-requires
 write-privileges-requires c κs = (
-  (search (needs, file-ready), search needs),
+  (search (needs, file-ready), search needs, search needs),
   (
-    (search (needs, file-ready), search needs),
+    search (needs, file-bounded),
     (
-      search (needs, file-bounded),
-      (
-        search (needs, privileges-long),
-        privileges-unwritten _ (c .before .before .before .before .before .before .before .before .before .before
-            .before .pre .1 .1 .1 .0 .1) (c .before .before .before .before .before .before .before .before .before .before .before .pre .1 .1 .1 .0 .2)
-            (c .before .before .before .before .before .before .before .before .before .before .before .args .table .now)
-            (c .before .before .before .before .before .before .before .before .before .before .before .pre .1 .1 .1 .1 .0)
-            (c .before .before .before .before .before .before .before .before .before .before .before .pre .1 .1 .1 .1 .1) _
-            (c .before .before .before .write-maps .ensures .1),
-      ),
+      search (needs, privileges-long),
+      privileges-unwritten _ (c .before .before .before .before .before .before .before .before .before .before
+          .before .pre .1 .1 .1 .0 .0) (c .before .before .before .before .before .before .before .before .before .before .before .pre .1 .1 .1 .0 .1)
+          (c .before .before .before .before .before .before .before .before .before .before .before .args .table .now)
+          (c .before .before .before .before .before .before .before .before .before .before .before .pre .1 .1 .1 .1 .0)
+          (c .before .before .before .before .before .before .before .before .before .before .before .pre .1 .1 .1 .1 .1) _
+          (c .before .before .before .write-maps .ensures .1),
     ),
   ),
 )
@@ -62,13 +59,13 @@ write-head-requires c κs = (
     (
       members-few _ _ (c .before .before .before .before .before .before .before .write-maps .ensures .0)
           (c .before .before .before .before .before .before .before .before .before .before .before .before .before .before .before .pre .1 .1 .1 .0
-          .1) (c .before .before .before .before .before .before .before .before .before .before .before .before .before .before .before .pre .1 .1 .1
-          .0 .2),
+          .0) (c .before .before .before .before .before .before .before .before .before .before .before .before .before .before .before .pre .1 .1 .1
+          .0 .1),
       search needs,
       entries-few _ _ (c .before .before .before .write-privileges .ensures .0)
           (c .before .before .before .before .before .before .before .before .before .before .before .before .before .before .before .pre .1 .1 .1 .0
-          .1) (c .before .before .before .before .before .before .before .before .before .before .before .before .before .before .before .pre .1 .1 .1
-          .0 .2),
+          .0) (c .before .before .before .before .before .before .before .before .before .before .before .before .before .before .before .pre .1 .1 .1
+          .0 .1),
     ),
     search (needs, head-unwritten),
   ),
@@ -80,8 +77,8 @@ same-length c = search needs
 returns : tie.Need-returns
 returns c =
     table-written _ (c .before .before .before .before .before .before .before .before .before .before .before .before .before .before .before
-    .before .before .before .pre .1 .1 .1 .0 .1) (c .before .before .before .before .before .before .before .before .before .before .before
-    .before .before .before .before .before .before .before .pre .1 .1 .1 .0 .2)
+    .before .before .before .pre .1 .1 .1 .0 .0) (c .before .before .before .before .before .before .before .before .before .before .before
+    .before .before .before .before .before .before .before .pre .1 .1 .1 .0 .1)
     (c .before .before .before .before .before .before .before .before .before .before .before .before .before .before .before .before .before
     .before .args .table .now) (c .before .before .before .before .before .before .before .before .before .before .before .before .before .before
     .before .before .before .before .pre .1 .1 .1 .1 .0) (c .before .before .before .before .before .before .before .before .before .before
