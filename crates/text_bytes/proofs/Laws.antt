@@ -1,7 +1,7 @@
 -- The classes of bytes: what the code computes of a byte is the paper's test. And the ends of a part.
 use mathlib.Core.Path.{_≡_, sym, _∙_}
 use mathlib.Core.List.{List}
-use mathlib.Core.Bool.{Bool, not, _&&_, _||_, and-assoc, and-true, or-assoc, or-false}
+use mathlib.Core.Bool.{Bool, _&&_, _||_, and-assoc, and-true, or-assoc, or-false}
 use Prim.Native.Nat.{ℕ, _+_, _-_, _<_, _≤_}
 use Prim.Native.Char.{code}
 use native.Mathlib.Omega.{arith}
@@ -10,7 +10,7 @@ use lib.ListN.{length, getD, take, drop, length-drop, drop-of-length-le}
 use lib.Seq.{take-nil, take-all}
 use Rattle.paper.specs.Common.{within, allOf, anyOf}
 use Rattle.paper.specs.Text.{comma, space}
-use Rattle.paper.specs.Scalars.{isLetter, isDigit, nameByte, identifierByte, identifierFirst}
+use Rattle.paper.specs.Scalars.{isLetter, isDigit, nameByte, identifierFirst}
 use Rattle.laws.proofs.Places.{drop-more}
 use Rattle.text_bytes.specs.Classes.{isOf, isOfList}
 use Rattle.text_bytes.specs.declared.Class.{Class}
@@ -32,17 +32,14 @@ module _ (b : ℕ) where
   unfolding identifierFirst anyOf
   identifier-first-is letter digit e f = rw (e, f) (simp (or-assoc, or-false))
 
-  pub identifier-byte-is : (visible : Bool) → visible ≡ within 0x21 0x7E b
-      → (visible && not (eqb b (code ",") || eqb b (code "[") || eqb b (code "]") || eqb b (code "{") || eqb b (code "}")
-      || (eqb b (code "#") || eqb b (code "\"") || eqb b (code "'") || eqb b (code ":")))) ≡ identifierByte b
-  unfolding identifierByte anyOf
-  identifier-byte-is visible e = rw e (simp (or-assoc, or-false))
-
   pub of-list-is : (class : Class) (r : Bool) → r ≡ isOf class b → (r || eqb b comma || eqb b space) ≡ isOfList class b
   of-list-is class r e = rw e
 
   pub of-known-class : (class known : Class) (r : Bool) → class ≡ known → r ≡ isOf known b → r ≡ isOf class b
   of-known-class class known r e f = rw e f
+
+pub list-of-known-class : (class known : Class) (r : Bool) (s : List ℕ) → class ≡ known → r ≡ allOf (isOfList known) s → r ≡ allOf (isOfList class) s
+list-of-known-class class known r s e f = rw e f
 
 -- ---- a part from a start to an end
 

@@ -8,6 +8,7 @@ ghost use Rattle.paper.specs.Common.{within, allOf, same, isFrontOf};
 ghost use Rattle.paper.specs.Scalars.{isLetter, isDigit, nameByte, identifierByte, identifierFirst};
 ghost use Rattle.laws.specs.Pieces.{before};
 ghost use Rattle.text_bytes.specs.Classes.{isOf, isOfList};
+ghost use Rattle.text_bytes.specs.declared.Class.the-variants.{IdentifierByte};
 
 // The classes of bytes that a stretch can be asked to keep to.
 pub enum Class {
@@ -103,13 +104,31 @@ fn name_byte(b: u8) -> bool
     is_letter(b) | is_digit(b) | (b == b'_') | (b == b'.')
 }
 
-// The test of a byte of an identifier, which stands here and nowhere else.
+// Which bytes may stand in an identifier, sixteen a row: `1` for those that may, `0` for the others, so that `&` of many is `1` only where each is.
+const IDENTIFIER: [u8; 256] = *b"\
+    0000000000000000\
+    0000000000000000\
+    0100111011110111\
+    1111111111011111\
+    1111111111111111\
+    1111111111101011\
+    1111111111111111\
+    1111111111101010\
+    0000000000000000\
+    0000000000000000\
+    0000000000000000\
+    0000000000000000\
+    0000000000000000\
+    0000000000000000\
+    0000000000000000\
+    0000000000000000";
+
+// The test of a byte of an identifier: one look in the table.
 fn identifier_byte(b: u8) -> bool
     ensures { λ r. ⌜ r ≡ identifierByte b ⌝ }
 {
-    let list_mark = (b == b',') | (b == b'[') | (b == b']') | (b == b'{') | (b == b'}');
-    let other_mark = (b == b'#') | (b == b'"') | (b == b'\'') | (b == b':');
-    within(0x21, 0x7E, b) & !(list_mark | other_mark)
+    let at = b as usize;
+    IDENTIFIER[at] == b'1'
 }
 
 pub fn identifier_first(b: u8) -> bool
@@ -148,8 +167,8 @@ fn is_of_list(class: Class, b: u8) -> bool
     is_of(class, b) | (b == byte::COMMA) | (b == byte::SPACE)
 }
 
-// Every byte is of a list of the class. The loop has no exit, so that it takes many bytes at a time.
-pub fn all_of_list(class: Class, s: &[u8]) -> bool
+// Every byte is of a list of the class: they are compared. The loop has no exit, so that it takes many bytes at a time.
+fn all_compared(class: Class, s: &[u8]) -> bool
     ensures { λ r. ⌜ r ≡ allOf (isOfList class) (now (s .entry)) ⌝ }
 {
     let mut right = true;
@@ -159,4 +178,33 @@ pub fn all_of_list(class: Class, s: &[u8]) -> bool
         i += 1;
     }
     right
+}
+
+// Every byte is of a list of identifiers: they are looked up. A constant is put down anew at each use, so the table is taken once, in front of the
+// loop, and lets in what stands between identifiers.
+fn all_looked_up(s: &[u8]) -> bool
+    ensures { λ r. ⌜ r ≡ allOf (isOfList IdentifierByte) (now (s .entry)) ⌝ }
+{
+    let mut table = IDENTIFIER;
+    table[byte::COMMA as usize] = b'1';
+    table[byte::SPACE as usize] = b'1';
+    let mut right = b'1';
+    let mut i: usize = 0;
+    while i < s.len() {
+        let at = s[i] as usize;
+        right = right & table[at];
+        i += 1;
+    }
+    right == b'1'
+}
+
+// Every byte is of a list of the class.
+pub fn all_of_list(class: Class, s: &[u8]) -> bool
+    ensures { λ r. ⌜ r ≡ allOf (isOfList class) (now (s .entry)) ⌝ }
+{
+    match class {
+        Class::NameByte => all_compared(class, s),
+        Class::IdentifierByte => all_looked_up(s),
+        Class::Digit => all_compared(class, s),
+    }
 }

@@ -1,52 +1,46 @@
--- The loop without exit: the bytes before it and those from it on are of the list exactly when all of s are.
-use mathlib.Core.Path.{_≡_}
-use mathlib.Core.Bool.{_&&_}
-use Prim.Native.Nat.{_-_}
-use lib.ListN.{length, drop}
-use Rattle.paper.specs.Common.{allOf}
-use Rattle.text_bytes.specs.Classes.{isOfList}
-use Rattle.text_bytes.proofs.Laws.{right-again, right-done}
+-- By the class.
+use Rattle.text_bytes.proofs.Laws.{list-of-known-class}
 use borrow.Author.Needs.{needs}
 use Rattle.text_bytes.proofs.all_of_list.Statement.{statement}
 use Rattle.text_bytes.proofs.all_of_list.Tie as tie
 
-abbrev Inv-loop : tie.InvT-loop
-Inv-loop class s right₀ i₀ right i = (right && allOf (isOfList class) (drop i s)) ≡ allOf (isOfList class) s
+enum-told : tie.Need-enum-told
+enum-told c = search needs
 
-abbrev μ-loop : tie.MeasureT-loop
-μ-loop class s right₀ i₀ right i = length s - i
+all-compared-requires : tie.Need-all-compared-requires
+all-compared-requires c κs = search needs
 
-loop-holds : tie.Need-loop-holds Inv-loop μ-loop
-loop-holds c = search needs
+enum-told-2 : tie.Need-enum-told-2
+enum-told-2 c = search needs
 
-shared-slice-read-is-of-list : tie.Need-shared-slice-read-is-of-list Inv-loop μ-loop
-shared-slice-read-is-of-list c = search needs
+all-looked-up-requires : tie.Need-all-looked-up-requires
+all-looked-up-requires c κs = search needs
 
-is-of-list-requires : tie.Need-is-of-list-requires Inv-loop μ-loop
-is-of-list-requires c κs = search needs
+enum-told-3 : tie.Need-enum-told-3
+enum-told-3 c = search needs
 
-add-i : tie.Need-add-i Inv-loop μ-loop
-add-i c = search needs
+all-compared-requires-2 : tie.Need-all-compared-requires-2
+all-compared-requires-2 c κs = search needs
 
-loop-less : tie.Need-loop-less Inv-loop μ-loop
-loop-less c = search needs
+returns : tie.Need-returns
+returns c = search needs
 
-loop-again : tie.Need-loop-again Inv-loop μ-loop
-loop-again c = search (needs, right-again)
+returns-2 : tie.Need-returns-2
+returns-2 c = search (needs, list-of-known-class)
 
-returns : tie.Need-returns Inv-loop μ-loop
-returns c = search (needs, right-done)
+returns-3 : tie.Need-returns-3
+returns-3 c = search needs
 
 pub all-of-list-spec : {M : Type 1} → statement M
 all-of-list-spec =
     tie.close
     (tie.spec
-    Inv-loop
-    μ-loop
-    loop-holds
-    shared-slice-read-is-of-list
-    is-of-list-requires
-    add-i
-    loop-less
-    loop-again
-    returns)
+    enum-told
+    all-compared-requires
+    enum-told-2
+    all-looked-up-requires
+    enum-told-3
+    all-compared-requires-2
+    returns
+    returns-2
+    returns-3)
