@@ -155,7 +155,7 @@ static const char *read_bytes(const char *line, size_t length)
 {
     for (size_t i = 0; i < length; i++)
         if (line[i] != '\t' && (line[i] < 0x20 || line[i] > 0x7E))
-            return "a byte that is no tab and not 0x20 to 0x7E; a CR at the end, perhaps";
+            return "a byte that is no tab and not 0x20 to 0x7E";
     return NULL;
 }
 

@@ -22,7 +22,7 @@ struct lines {
     size_t length;
 };
 
-/* Whether there is another line; it is then there without its LF. If not, the fault says why, unless the file has ended. */
+/* Whether there is another line; it is then there without the LF, or CR and LF, that ends it. If not, the fault says why, unless the file has ended. */
 static bool next_line(struct lines *lines, const char **fault)
 {
     int byte;
@@ -35,6 +35,8 @@ static bool next_line(struct lines *lines, const char **fault)
         }
         lines->bytes[lines->length++] = (char)byte;
     }
+    if (byte == '\n' && lines->length > 0 && lines->bytes[lines->length - 1] == '\r')
+        lines->length--;
     if (!ferror(lines->file))
         return byte == '\n' || lines->length > 0;
     *fault = strerror(errno);

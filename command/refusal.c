@@ -12,7 +12,7 @@
 /* So much of a long line is shown, and so much of it before a mark. */
 enum { SHOWN_BYTES = 120, SHOWN_BEFORE = 80 };
 
-/* A line of the text, without its LF, and whether it has one. */
+/* A line of the text, without the LF, or CR and LF, that ends it, and whether one does. */
 struct line {
     const char *bytes; /* null where the text ends before it */
     size_t length;
@@ -24,17 +24,20 @@ static struct line line_of(const struct text *text, uint32_t number)
     const char *at = (const char *)text->bytes, *end = at + text->length;
     for (; number > 0 && at < end; number--) {
         const char *ending = memchr(at, '\n', (size_t)(end - at));
-        if (number == 1)
-            return (struct line){at, (size_t)((ending ? ending : end) - at), ending != NULL};
+        if (number == 1) {
+            bool has_cr = ending && ending > at && ending[-1] == '\r';
+            return (struct line){at, (size_t)((ending ? ending : end) - at) - (has_cr ? 1 : 0), ending != NULL};
+        }
         at = ending ? ending + 1 : end;
     }
     return (struct line){NULL, 0, false};
 }
 
-/* Where the byte stands that the text is refused for with 3: behind the longest front that is not. */
-static const char *bad_byte(const struct text *text)
+/* Where the byte stands that the text is refused for with 3: behind the longest front that is not. It is looked for in its
+   line alone: a front that ends between a CR and its LF is refused for that CR. */
+static const char *bad_byte(const struct text *text, struct line line)
 {
-    size_t good = 0, bad = text->length;
+    size_t good = (size_t)(line.bytes - (const char *)text->bytes), bad = good + line.length;
     while (good + 1 < bad) {
         size_t middle = good + (bad - good) / 2;
         if (dovetenon_reading_number(dovetenon_page(text->bytes, middle)) == DOVETENON_BAD_BYTE)
@@ -46,9 +49,9 @@ static const char *bad_byte(const struct text *text)
 }
 
 /* The byte to be marked in a line, or null: only 3 has a place that the proved answers tell. */
-static const char *marked(const struct text *text, uint16_t number)
+static const char *marked(const struct text *text, uint16_t number, struct line line)
 {
-    return number == DOVETENON_BAD_BYTE ? bad_byte(text) : NULL;
+    return number == DOVETENON_BAD_BYTE ? bad_byte(text, line) : NULL;
 }
 
 /* Shows the line, and a mark below it. */
@@ -107,7 +110,7 @@ void tell_number(const char *file, uint16_t number)
 int tell_refusal(const struct text *text, uint16_t number, uint32_t line, bool json)
 {
     struct line shown = line_of(text, line);
-    const char *mark = marked(text, number);
+    const char *mark = marked(text, number, shown);
     if (json) {
         tell_json(text, number, line, shown, mark);
     } else {

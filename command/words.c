@@ -5,9 +5,11 @@
 
 static const struct words refusals[] = {
     {1, "the table lent has fewer than 16,384 words", "Lend 16,384 words or more."},
-    {2, "the text has more than 65,536 bytes", "Take out comments, or shorten paths: the limit is 65,536 bytes, LFs counted."},
-    {3, "a byte that is not LF and not 0x20 to 0x7E",
-     "Mostly a tab, a CR from an office editor, or a letter beyond ASCII in a comment. Replace it; end lines with LF alone."},
+    {2, "the text has more than 65,536 bytes",
+     "Take out comments, or shorten paths: the limit is 65,536 bytes, CRs and LFs counted."},
+    {3, "a byte that is not LF, not 0x20 to 0x7E, and no CR directly before LF",
+     "Mostly a tab, a letter beyond ASCII in a comment, or a CR with no LF behind it. "
+     "Replace it; end lines with LF, or with CR and LF."},
     {4, "layout: a line that is not as the format asks, or not the one due",
      "another key is due there, it stands at another column, its spaces are wrong, its value is of another shape, or LF is missing. "
      "Compare it with the table of keys."},

@@ -38,7 +38,7 @@ enum {
 enum {
     DOVETENON_TABLE_TOO_SHORT = 1,    /* table under 16,384 words */
     DOVETENON_TEXT_TOO_LONG = 2,      /* text over 65,536 bytes */
-    DOVETENON_BAD_BYTE = 3,           /* byte other than LF and 0x20 to 0x7E */
+    DOVETENON_BAD_BYTE = 3,           /* byte other than LF, 0x20 to 0x7E, and CR directly before LF */
     DOVETENON_LAYOUT = 4,             /* layout, key, missing key, no LF at the end, empty text */
     DOVETENON_SCALAR = 5,             /* scalar malformed, list elements too */
     DOVETENON_COUNT = 6,              /* a count over its limit */
@@ -201,7 +201,8 @@ static inline uint32_t dovetenon_report_uid(uint64_t report)
 
 /* ---- The reader */
 
-/* Reads a policy text into a table.
+/* Reads a policy text into a table. LF, or CR and LF, ends each of its lines;
+   one text may have both.
 
    Refused with 1, then 2, then 3, then the first line with 4, 9 or 5, in that
    order on one line, then 6, 7, 8, 10, 11, each over the whole file and with
@@ -245,8 +246,9 @@ static inline uint32_t dovetenon_reading_line(uint64_t reading)
 
 /* ---- The filler */
 
-/* Writes a policy text with every default filled in and without its skipped
-   lines. What it writes is read into the same table.
+/* Writes a policy text with every default filled in, without its skipped lines
+   and with LF alone at the end of each line. What it writes is read into the
+   same table.
 
    Refused with 2 to 11 as dovetenon_read does, then 31, then 30.
 

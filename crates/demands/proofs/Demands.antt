@@ -5,6 +5,7 @@
 use mathlib.Core.Path.{_≡_}
 use mathlib.Core.Logic.{_↔_}
 use mathlib.Core.List.{List}
+use mathlib.Core.Bool.{Bool, true}
 use Prim.Native.Nat.{ℕ, _<_, _≤_}
 use lib.ListN.{length, take}
 use borrow.Author.Tests.{le-ltb}
@@ -13,7 +14,7 @@ use Rattle.paper.specs.declared.Filling.the-variants.{Written}
 use Rattle.paper.specs.declared.Report.{Report}
 use Rattle.paper.specs.declared.Report.the-variants.{Clear}
 use Rattle.paper.specs.declared.Map.{Map}
-use Rattle.paper.specs.Limits.{tableWords, witnessWords}
+use Rattle.paper.specs.Limits.{textBytes, tableWords, witnessWords}
 use Rattle.paper.specs.Page.{Field, fields}
 use Rattle.paper.specs.Policy.{policyOf}
 use Rattle.paper.specs.Match.{Moment}
@@ -25,6 +26,8 @@ use Rattle.judge.proofs.Demand.{demand-2}
 use Rattle.laws_file.proofs.Accepted.{accepted-exactly}
 use Rattle.laws_file.proofs.Reader.{read-formed, read-policy, read-says, read-clear}
 use Rattle.laws_filled.proofs.RoundTrip.{same-reading}
+use Rattle.laws_office.specs.Office.{office, noReturn, FurtherOn}
+use Rattle.laws_office.proofs.Office.{office-answer, office-table, office-filling, office-filled, office-bytes, office-place}
 use Rattle.demands.specs.Answered.{Reads, Fills, Judges, Reports, Names, ClashNamed}
 use Rattle.demands.proofs.Answered.{reader-answers, filler-answers, judge-answers, report-answers, lookup-answers, clash-named}
 
@@ -80,3 +83,19 @@ module _ (text table : List ℕ) (file : List Field) (read : fileOf text ≡ fie
 
   pub demand-3-clash : (r ≡ Clear → ⊥) → ClashNamed (policyOf file) old new r
   demand-3-clash = clash-named (policyOf file) old new r (read-says text table file read room old new r enough reported)
+
+-- ---- "Office files end lines with CR LF." A text without CR, and the same with CR LF for LF at the end of any of its lines, `which` saying of which: the
+-- same answer, the same table, the same filled text, and each name with the same bytes, further on by one for each CR before it.
+
+module _ (which : ℕ → Bool) (text : List ℕ) (plain : noReturn text ≡ true) (short : length (office which text) ≤ textBytes) where
+  pub office-read : (table : List ℕ)
+      → (readAnswer (office which text) table ≡ readAnswer text table) × (readLeaves (office which text) table ≡ readLeaves text table)
+  office-read table = (office-answer which text plain short table, office-table which text plain short table)
+
+  pub office-fill : (out : List ℕ) → (fillAnswer (office which text) out ≡ fillAnswer text out) × (fillLeaves (office which text) out ≡ fillLeaves text out)
+  office-fill out = (office-filling which text plain short out, office-filled which text plain short out)
+
+  pub office-names : (map : Map) (domain : ℕ)
+      → (lookupAnswer (office which text) map domain .bytes ≡ lookupAnswer text map domain .bytes)
+      × FurtherOn (office which text) (lookupAnswer (office which text) map domain) (lookupAnswer text map domain)
+  office-names map domain = (office-bytes which text plain short map domain, office-place which text plain short map domain)

@@ -1,7 +1,7 @@
 -- What name lookup answers: each field at a name's place of an accepted text holds a domain name that stands in the text.
 use mathlib.Core.Path.{_≡_, refl}
 use mathlib.Core.Bool.{Bool, true, false, cond, not, _&&_, _||_, false≢true}
-use mathlib.Core.List.{List, [], _∷_}
+use mathlib.Core.List.{List}
 use mathlib.Core.Logic.{_↔_, _⊎_, inl, inr, ⊎-elim}
 use Prim.Native.Nat.{ℕ, _+_, _<_, _≤_}
 use native.Mathlib.Omega.{arith}
@@ -18,30 +18,17 @@ use Rattle.paper.specs.Page.{Field, noField, Outcome, fields, fault, beforeFirs
 use Rattle.paper.specs.Entries.{isAt, fieldsAt}
 use Rattle.paper.specs.Lookup.{Stretch, front, stretchOf, namesOf, nameAmong}
 use Rattle.paper.specs.Promises.{fileOf, lookupAnswer}
-use Rattle.laws.proofs.Tests.{both-true, both-left, both-right, same-equal, le-or-lt}
+use Rattle.laws.proofs.Tests.{both-left, both-right, same-equal, le-or-lt}
 use Rattle.laws.proofs.Counting.{allOf-at}
 use Rattle.laws_page.specs.Right.{isRight, stands}
 use Rattle.laws_page.proofs.Right.{fields-stand}
 use Rattle.laws_file.specs.Accepted.{isFilled}
-use Rattle.laws_file.proofs.Stretched.{allOf-both}
+use Rattle.laws_file.proofs.Stretched.{allOf-both, at-place}
 use Rattle.laws_file.proofs.Ordered.{fields-filled}
 use Rattle.laws_file.proofs.EachRule.{page-right, page-in-order}
 use Rattle.laws_file.proofs.Reader.{accepted-page}
 use Rattle.laws_file.proofs.Accepted.{accepted-exactly}
 use Rattle.file_lookup.specs.Names.{countOf, NoSuchName, NameStands, nameBytes, Bounded}
-
--- ---- the fields of a place
-
--- what holds of every field holds of those of a place, which stand there
-at-place : (p : ℕ) (test : Field → Bool) (fs : List Field) → allOf test fs ≡ true → allOf (λ f. test f && isAt p f) (fieldsAt p fs) ≡ true
-unfolding allOf fieldsAt
-at-place p test [] h = refl
-at-place p test (f ∷ fs) h = go (isAt p f) refl (at-place p test fs (both-right (test f) _ h))
-  where
-    go : (b : Bool) → isAt p f ≡ b → allOf (λ f. test f && isAt p f) (fieldsAt p fs) ≡ true
-        → allOf (λ f. test f && isAt p f) (cond b (f ∷ fieldsAt p fs) (fieldsAt p fs)) ≡ true
-    go true e r = both-true (test f && isAt p f) _ (both-true (test f) _ (both-left (test f) _ h) e) r
-    go false e r = r
 
 -- ---- a name
 

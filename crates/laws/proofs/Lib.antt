@@ -2,6 +2,7 @@ pub mod Tests
 pub mod Chains
 pub mod Places
 pub mod Sets
+pub mod Standing
 pub mod Stretches
 pub mod Counting
 pub mod Blocks

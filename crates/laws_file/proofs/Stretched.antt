@@ -101,3 +101,16 @@ module _ (place : ℕ) (Holds : List ℕ → Type 0) (test : Field → Bool) (of
           → ((anyOf (isAt place) fs ≡ false → Holds (defaultAt place)) → Holds (valueAt place fs)) → Holds (cond t (meant f) (valueAt place fs))
       go true e d r = of-field f (both-left (test f) _ h) (eqb-true (f .place) place e)
       go false e d r = r d
+
+-- ---- the fields of a place
+
+-- what holds of every field holds of those of a place, which stand there
+pub at-place : (p : ℕ) (test : Field → Bool) (fs : List Field) → allOf test fs ≡ true → allOf (λ f. test f && isAt p f) (fieldsAt p fs) ≡ true
+unfolding allOf fieldsAt
+at-place p test [] h = refl
+at-place p test (f ∷ fs) h = go (isAt p f) refl (at-place p test fs (both-right (test f) _ h))
+  where
+    go : (b : Bool) → isAt p f ≡ b → allOf (λ f. test f && isAt p f) (fieldsAt p fs) ≡ true
+        → allOf (λ f. test f && isAt p f) (cond b (f ∷ fieldsAt p fs) (fieldsAt p fs)) ≡ true
+    go true e r = both-true (test f && isAt p f) _ (both-true (test f) _ (both-left (test f) _ h) e) r
+    go false e r = r

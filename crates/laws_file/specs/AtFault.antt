@@ -5,10 +5,10 @@ use mathlib.Core.Bool.{true, false, cond}
 use mathlib.Core.List.{List, _∷_, _++_}
 use lib.Dec.{eqb}
 use lib.ListN.{length}
-use Rattle.paper.specs.Common.{allOf}
 use Rattle.paper.specs.Limits.{textBytes}
-use Rattle.paper.specs.Text.{lineFeed, mayStand, noLine}
+use Rattle.paper.specs.Text.{lineFeed, nextByte, mayStand, noLine}
 use Rattle.paper.specs.Page.{Field, fields, pageOf}
+use Rattle.laws.specs.Standing.{allStand}
 use Rattle.laws_page.specs.First.{Smallest}
 use Rattle.laws_file.specs.Rules.{total, OverLimit, NamedTwice, UnknownName, UnboundVariable, TwinPrincipal}
 
@@ -16,14 +16,14 @@ use Rattle.laws_file.specs.Rules.{total, OverLimit, NamedTwice, UnknownN
 abbrev pub feed : ℕ → ℕ
 feed b = cond (eqb b lineFeed) 1 0
 
--- 3: "byte other than LF and 0x20 to 0x7E", in a text that begins on line n: each LF before it begins a line more
+-- 3: "byte other than LF and 0x20 to 0x7E", a CR directly before LF aside, in a text that begins on line n: each LF before it begins a line more
 pub record BadByte (n : ℕ) (t : List ℕ) (m : ℕ) : Type 0 where
   pub before : List ℕ
   pub byte : ℕ
   pub behind : List ℕ
   pub splits : t ≡ before ++ (byte ∷ behind)
   pub number : m ≡ n + total feed before
-  pub bad : mayStand byte ≡ false
+  pub bad : mayStand byte (nextByte behind) ≡ false
 
 -- a rule over the whole file is about the fields of a page that is not refused
 pub record InFile (t : List ℕ) (Rule : List Field → ℕ → Type 0) (m : ℕ) : Type 0 where
@@ -87,8 +87,8 @@ AtFault t twin-principal m = InFile t TwinPrincipal m
 pub record RulesHold (t : List ℕ) : Type 0 where
   -- 2: "text over 65,536 bytes"
   pub short : length t ≤ textBytes
-  -- 3: "byte other than LF and 0x20 to 0x7E"
-  pub bytes-stand : allOf mayStand t ≡ true
+  -- 3: "byte other than LF and 0x20 to 0x7E", a CR directly before LF aside
+  pub bytes-stand : allStand t ≡ true
   -- 4: "layout (also no list, block or `all` where one is due), key, missing key, no LF at the end, empty text"
   pub laid-out : (m : ℕ) → Smallest t 4 m → ⊥
   -- 9: "empty field with no "none""

@@ -10,14 +10,16 @@ use lib.ListN.{length, length-append}
 use lib.Seq.{drop-append-seam}
 use borrow.Author.Tests.{eqb-true, ne-eqb, leb-true, le-leb, not-true}
 use Rattle.paper.specs.Common.{isEmpty, within, allOf, anyOf}
-use Rattle.paper.specs.Text.{lineFeed, space, mayStand, linesFrom, withByte, onLine}
+use Rattle.paper.specs.Text.{lineFeed, carriageReturn, space, nextByte, returnBeforeFeed, mayStand, linesFrom, withByte, onLine}
 use Rattle.paper.specs.Listing.{rowAt, keyAt, bareIsNone, noFault, valueFault}
 use Rattle.paper.specs.Page.{Field, fields, fault, State, pass, beforeFirst, isLeftEmpty, placesFor, oneSpaceAndValue}
 use Rattle.paper.specs.Page.{fieldStep, afterKey, placeStep, unlessEmpty, lineStep, atEnd, pageFrom, pageOf}
 use Rattle.paper.specs.Filled.{keyLine, bareLine, writtenLine}
-use Rattle.laws.proofs.Tests.{both-left, both-right, both-false, either-of, either-right}
+use Rattle.laws.specs.Standing.{allStand}
+use Rattle.laws.proofs.Tests.{both-true, both-left, both-right, both-false, either-of, either-left, either-right}
 use Rattle.laws.proofs.Counting.{allOf-append, allOf-weaker}
 use Rattle.laws_page.specs.Right.{isRight, needsBlock, mayFollow, inListingOrder}
+use Rattle.laws_filled.specs.Clean.{isPlainByte}
 use Rattle.laws_filled.specs.Fields.{textOf, startOf, numbered}
 use Rattle.laws_filled.proofs.Text.{text-more}
 use Rattle.laws_filled.proofs.LineKeys.{Found, found-block, found-next}
@@ -28,13 +30,17 @@ use Rattle.laws_filled.proofs.Plain.{Plain, right-plain}
 no-feed : (b : ℕ) → within 0x20 0x7E b ≡ true → eqb b lineFeed ≡ false
 no-feed b h = let l : 0x20 ≤ b = leb-true 0x20 b (both-left (leb 0x20 b) _ h) in ne-eqb b lineFeed (λ (e : b ≡ lineFeed). omega arith)
 
+no-return : (b : ℕ) → within 0x20 0x7E b ≡ true → eqb b carriageReturn ≡ false
+no-return b h = let l : 0x20 ≤ b = leb-true 0x20 b (both-left (leb 0x20 b) _ h) in ne-eqb b carriageReturn (λ (e : b ≡ carriageReturn). omega arith)
+
 lines-more : (at : ℕ) (l rest : List ℕ) → allOf (within 0x20 0x7E) l ≡ true
     → linesFrom at (l ++ (lineFeed ∷ rest)) ≡ record { start = at; text = l; ended = true } ∷ linesFrom (at + (length l + 1)) rest
-unfolding linesFrom withByte onLine allOf
+unfolding linesFrom withByte onLine returnBeforeFeed allOf
 lines-more at [] rest h = refl
 lines-more at (b ∷ bs) rest h =
     let q : at + 1 + (length bs + 1) ≡ at + (suc (length bs) + 1) = omega arith in
-    rw (no-feed b (both-left (within 0x20 0x7E b) _ h), lines-more (at + 1) bs rest (both-right (within 0x20 0x7E b) _ h), q)
+    let stands : within 0x20 0x7E b ≡ true = both-left (within 0x20 0x7E b) _ h in
+    rw (no-return b stands, no-feed b stands, lines-more (at + 1) bs rest (both-right (within 0x20 0x7E b) _ h), q)
     refl
 
 -- what stands behind the key on the line of a field
@@ -194,25 +200,34 @@ pub written-read : (fs : List Field) → inListingOrder 0 false fs ≡ true → 
 unfolding pageOf textOf beforeFirst
 written-read fs h r = reads-back beforeFirst 1 0 fs h r
 
--- ---- every byte of the text may stand
+-- ---- every byte of the text is LF or one that may stand anywhere
 
-within-stands : (b : ℕ) → within 0x20 0x7E b ≡ true → mayStand b ≡ true
-unfolding mayStand
-within-stands b h = either-right (eqb b lineFeed) _ h
-
-line-stands : (place : ℕ) (bare : Bool) (f : Field) → mayFollow place bare f ≡ true → isRight f ≡ true → allOf mayStand (writtenLine f) ≡ true
-unfolding mayStand allOf
+line-stands : (place : ℕ) (bare : Bool) (f : Field) → mayFollow place bare f ≡ true → isRight f ≡ true → allOf isPlainByte (writtenLine f) ≡ true
+unfolding isPlainByte allOf
 line-stands place bare f m r =
     rw (sym (append-nil (writtenLine f)) ∙ line-ends f [])
-    (allOf-append mayStand (keyAt (f .place) ++ behindKey (f .value)) (lineFeed ∷ [])
-    (allOf-weaker (within 0x20 0x7E) mayStand within-stands (keyAt (f .place) ++ behindKey (f .value)) (line-bytes place bare f m r))
+    (allOf-append isPlainByte (keyAt (f .place) ++ behindKey (f .value)) (lineFeed ∷ [])
+    (allOf-weaker (within 0x20 0x7E) isPlainByte (λ b h. either-right (eqb b lineFeed) _ h) (keyAt (f .place) ++ behindKey (f .value))
+    (line-bytes place bare f m r))
     refl)
 
 pub text-stands : (place : ℕ) (bare : Bool) (fs : List Field) → inListingOrder place bare fs ≡ true → allOf isRight fs ≡ true
-    → allOf mayStand (textOf fs) ≡ true
+    → allOf isPlainByte (textOf fs) ≡ true
 unfolding textOf inListingOrder allOf flatMap
 text-stands place bare [] h r = refl
 text-stands place bare (f ∷ fs) h r =
-    allOf-append mayStand (writtenLine f) (flatMap writtenLine fs)
+    allOf-append isPlainByte (writtenLine f) (flatMap writtenLine fs)
     (line-stands place bare f (both-left (mayFollow place bare f) _ h) (both-left (isRight f) _ r))
     (text-stands (f .place) (isEmpty (f .value)) fs (both-right (mayFollow place bare f) _ h) (both-right (isRight f) _ r))
+
+plain-stands : (b next : ℕ) → isPlainByte b ≡ true → mayStand b next ≡ true
+unfolding isPlainByte mayStand
+plain-stands b next h = either-left (eqb b lineFeed || within 0x20 0x7E b) _ h
+
+-- and so all of them stand
+pub plain-all-stand : (t : List ℕ) → allOf isPlainByte t ≡ true → allStand t ≡ true
+unfolding allOf allStand
+plain-all-stand [] h = refl
+plain-all-stand (b ∷ bs) h =
+    both-true (mayStand b (nextByte bs)) _ (plain-stands b (nextByte bs) (both-left (isPlainByte b) _ h))
+    (plain-all-stand bs (both-right (isPlainByte b) _ h))

@@ -21,10 +21,10 @@ use Rattle.laws_page.specs.Right.{isRight, needsBlock, mayFollow, inListingOrde
 use Rattle.laws_file.proofs.EachRule.{page-right, page-in-order}
 use Rattle.laws_file.proofs.Reader.{accepted-page}
 use Rattle.laws_filled.specs.Fields.{textOf, written}
-use Rattle.laws_filled.specs.Clean.{lastByte, Clean}
+use Rattle.laws_filled.specs.Clean.{lastByte, isPlainByte, Clean}
 use Rattle.laws_filled.proofs.Text.{filled-text, text-more}
 use Rattle.laws_filled.proofs.Plain.{Plain}
-use Rattle.laws_filled.proofs.Back.{behindKey, line-ends, line-length, key-known, plain-of, text-lines, text-none}
+use Rattle.laws_filled.proofs.Back.{behindKey, line-ends, line-length, key-known, plain-of, text-lines, text-none, text-stands}
 use Rattle.laws_filled.proofs.WrittenRight.{written-right}
 use Rattle.laws_filled.proofs.WrittenOrder.{written-order}
 use Rattle.laws_filled.proofs.Filler.{was-filled, left-text}
@@ -106,10 +106,11 @@ none-first : inListingOrder 0 false [] ≡ true → ⊥
 unfolding inListingOrder needsBlock rowAt listing
 none-first h = false≢true h
 
-clean-of : (t : List ℕ) → 1 ≤ length t → lastByte t ≡ lineFeed → allOf isClean (linesFrom 0 t) ≡ true → Clean t
+clean-of : (t : List ℕ) → 1 ≤ length t → allOf isPlainByte t ≡ true → lastByte t ≡ lineFeed → allOf isClean (linesFrom 0 t) ≡ true → Clean t
 unfolding isClean
-clean-of t s e h = record {
+clean-of t s p e h = record {
   some = s;
+  plain = p;
   feed = e;
   ended =
       allOf-weaker isClean (λ l. l .ended) (λ l k. both-left (l .ended) _ (both-left (l .ended && not (skipped (l .text))) _ k)) (linesFrom 0 t) h;
@@ -125,7 +126,7 @@ clean-of t s e h = record {
 fields-clean : (fs : List Field) → inListingOrder 0 false fs ≡ true → allOf isRight fs ≡ true → Clean (textOf fs)
 unfolding textOf
 fields-clean [] o r = absurd (none-first o)
-fields-clean (f ∷ fs) o r = clean-of (flatMap writtenLine (f ∷ fs)) (text-some f fs) (text-ends f fs) (text-clean 0 false 0 (f ∷ fs) o r)
+fields-clean (f ∷ fs) o r = clean-of (flatMap writtenLine (f ∷ fs)) (text-some f fs) (text-stands 0 false (f ∷ fs) o r) (text-ends f fs) (text-clean 0 false 0 (f ∷ fs) o r)
 
 -- ---- the whole of it
 

@@ -74,7 +74,7 @@ unfolding flatMap writtenLine says unwritten
 lines-say [] = refl
 lines-say (f ∷ fs) = rw (lines-say fs) refl
 
-text-says : (fs : List Field) → filledText (map says fs) ≡ filledText fs
+pub text-says : (fs : List Field) → filledText (map says fs) ≡ filledText fs
 unfolding filledText entriesOf
 text-says fs =
     rw (

@@ -3,6 +3,7 @@ use mathlib.Core.Path.{_≡_, refl, sym, ap, _∙_}
 use mathlib.Core.List.{List, [], _∷_, map, flatMap}
 use mathlib.Core.Bool.{Bool, true, false, cond}
 use Prim.Native.Nat.{ℕ, _+_}
+use lib.Dec.{eqb}
 use Rattle.paper.specs.Common.{is}
 use Rattle.paper.specs.Lists.{elements}
 use Rattle.paper.specs.Listing.{objectName, objectMembers, subjectName, subjectMembers, subjectOfEntry, executionContext, canCall, canReturn, canRead}
@@ -32,6 +33,47 @@ pub map-same : {A B C : Type 0} (h : A → B) (g : B → C) (f : A → C) → ((
 map-same h g f e [] = refl
 map-same h g f e (x ∷ xs) = rw (e x, map-same h g f e xs) refl
 
+-- ---- where fields stand does not change with what else is changed of them
+
+module _ (g : Field → Field) (stays : (f : Field) → g f .place ≡ f .place) (p : ℕ) where
+  still : (f : Field) → isAt p (g f) ≡ isAt p f
+  still f = ap (λ place. eqb place p) (stays f)
+
+  pub fields-kept : (fs : List Field) → fieldsAt p (map g fs) ≡ map g (fieldsAt p fs)
+  unfolding fieldsAt
+  fields-kept [] = refl
+  fields-kept (f ∷ fs) = go (isAt p (g f)) (isAt p f) (still f) (fields-kept fs)
+    where
+      go : (s t : Bool) → s ≡ t → fieldsAt p (map g fs) ≡ map g (fieldsAt p fs)
+          → cond s (g f ∷ fieldsAt p (map g fs)) (fieldsAt p (map g fs)) ≡ map g (cond t (f ∷ fieldsAt p fs) (fieldsAt p fs))
+      go s true h e = rw (h, e) refl
+      go s false h e = rw h e
+
+  pub next-kept : (fs : List Field) → upToNext p (map g fs) ≡ map g (upToNext p fs)
+  unfolding upToNext
+  next-kept [] = refl
+  next-kept (f ∷ fs) = go (isAt p (g f)) (isAt p f) (still f) (next-kept fs)
+    where
+      go : (s t : Bool) → s ≡ t → upToNext p (map g fs) ≡ map g (upToNext p fs)
+          → cond s [] (g f ∷ upToNext p (map g fs)) ≡ map g (cond t [] (f ∷ upToNext p fs))
+      go s true h e = rw h refl
+      go s false h e = rw (h, e) refl
+
+  pub stretches-kept : (fs : List Field) → stretchesFrom p (map g fs) ≡ map (map g) (stretchesFrom p fs)
+  unfolding stretchesFrom
+  stretches-kept [] = refl
+  stretches-kept (f ∷ fs) = go (isAt p (g f)) (isAt p f) (still f) (next-kept fs) (stretches-kept fs)
+    where
+      go : (s t : Bool) → s ≡ t → upToNext p (map g fs) ≡ map g (upToNext p fs) → stretchesFrom p (map g fs) ≡ map (map g) (stretchesFrom p fs)
+          → cond s ((g f ∷ upToNext p (map g fs)) ∷ stretchesFrom p (map g fs)) (stretchesFrom p (map g fs))
+          ≡ map (map g) (cond t ((f ∷ upToNext p fs) ∷ stretchesFrom p fs) (stretchesFrom p fs))
+      go s true h d e = rw (h, d, e) refl
+      go s false h d e = rw h e
+
+says-there : (f : Field) → says f .place ≡ f .place
+unfolding says unwritten
+says-there f = refl
+
 -- ---- what the definitions look at
 
 module _ (p : ℕ) where
@@ -41,35 +83,13 @@ module _ (p : ℕ) where
   value-says (f ∷ fs) = rw (value-says fs) refl
 
   fields-say : (fs : List Field) → fieldsAt p (map says fs) ≡ map says (fieldsAt p fs)
-  unfolding fieldsAt says unwritten
-  fields-say [] = refl
-  fields-say (f ∷ fs) = go (isAt p f) (fields-say fs)
-    where
-      go : (t : Bool) → fieldsAt p (map says fs) ≡ map says (fieldsAt p fs)
-          → cond t (says f ∷ fieldsAt p (map says fs)) (fieldsAt p (map says fs)) ≡ map says (cond t (f ∷ fieldsAt p fs) (fieldsAt p fs))
-      go true e = rw e refl
-      go false e = e
+  fields-say = fields-kept says says-there p
 
   pub next-says : (fs : List Field) → upToNext p (map says fs) ≡ map says (upToNext p fs)
-  unfolding upToNext says unwritten
-  next-says [] = refl
-  next-says (f ∷ fs) = go (isAt p f) (next-says fs)
-    where
-      go : (t : Bool) → upToNext p (map says fs) ≡ map says (upToNext p fs)
-          → cond t [] (says f ∷ upToNext p (map says fs)) ≡ map says (cond t [] (f ∷ upToNext p fs))
-      go true e = refl
-      go false e = rw e refl
+  next-says = next-kept says says-there p
 
   pub stretches-say : (fs : List Field) → stretchesFrom p (map says fs) ≡ map (map says) (stretchesFrom p fs)
-  unfolding stretchesFrom says unwritten
-  stretches-say [] = refl
-  stretches-say (f ∷ fs) = go (isAt p f) (next-says fs) (stretches-say fs)
-    where
-      go : (t : Bool) → upToNext p (map says fs) ≡ map says (upToNext p fs) → stretchesFrom p (map says fs) ≡ map (map says) (stretchesFrom p fs)
-          → cond t ((says f ∷ upToNext p (map says fs)) ∷ stretchesFrom p (map says fs)) (stretchesFrom p (map says fs))
-          ≡ map (map says) (cond t ((f ∷ upToNext p fs) ∷ stretchesFrom p fs) (stretchesFrom p fs))
-      go true d e = rw (d, e) refl
-      go false d e = e
+  stretches-say = stretches-kept says says-there p
 
   pub domains-say : (fs : List Field) → domainsAt p (map says fs) ≡ domainsAt p fs
   unfolding domainsAt says unwritten

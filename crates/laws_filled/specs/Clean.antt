@@ -1,11 +1,11 @@
 -- How the filled text looks, and what of the file it keeps (document 01, "The page" and "A file, filled out").
 use mathlib.Core.Path.{_≡_}
 use mathlib.Core.List.{List}
-use mathlib.Core.Bool.{true, not}
+use mathlib.Core.Bool.{Bool, true, not, _||_}
 use Prim.Native.Nat.{ℕ, _-_, _≤_}
 use lib.Dec.{eqb}
 use lib.ListN.{length, getD}
-use Rattle.paper.specs.Common.{allOf}
+use Rattle.paper.specs.Common.{within, allOf}
 use Rattle.paper.specs.Text.{lineFeed, space, lines, skipped}
 use Rattle.paper.specs.Listing.{objectName, objectMembers, subjectName, subjectMembers}
 use Rattle.paper.specs.Page.{Field}
@@ -15,9 +15,14 @@ use Rattle.paper.specs.Rules.{domainsAt, identifiersAt}
 unfoldable pub lastByte : List ℕ → ℕ
 lastByte bs = getD bs (length bs - 1) 0
 
--- "Skipped lines vanish", each line is "ended by LF", and so the last one, and none ends with a space
+-- LF or a byte from 0x20 to 0x7E: no CR
+unfoldable pub isPlainByte : ℕ → Bool
+isPlainByte b = eqb b lineFeed || within 0x20 0x7E b
+
+-- "Skipped lines vanish", "The filled text has LF only", each line is "ended by LF", and so the last one, and none ends with a space
 pub record Clean (t : List ℕ) : Type 0 where
   pub some : 1 ≤ length t
+  pub plain : allOf isPlainByte t ≡ true
   pub feed : lastByte t ≡ lineFeed
   pub ended : allOf (λ l. l .ended) (lines t) ≡ true
   pub counted : allOf (λ l. not (skipped (l .text))) (lines t) ≡ true

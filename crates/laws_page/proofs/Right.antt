@@ -10,7 +10,7 @@ use lib.ListN.{length, getD, take, drop, length-drop}
 use lib.Seq.{drop-drop}
 use borrow.Author.Tests.{eq-eqb, ne-eqb, le-leb, leb-true, eqb-true}
 use Rattle.paper.specs.Common.{isEmpty, allOf, anyOf, isFrontOf}
-use Rattle.paper.specs.Text.{Line, linesFrom, withByte, onLine, skipped}
+use Rattle.paper.specs.Text.{Line, nextByte, returnBeforeFeed, endAt, linesFrom, withByte, onLine, skipped}
 use Rattle.paper.specs.Listing.{rowAt, keyAt, atBlock, bareIsNone, valueFault}
 use Rattle.paper.specs.Page.{Outcome, fields, fault, State, Step, pass, stop, Field, isLeftEmpty, placesFor, placeOf, oneSpaceAndValue, fieldStep, afterKey, placeStep, unlessEmpty}
 use Rattle.paper.specs.Page.{lineStep, atEnd, andFields, after, pageFrom}
@@ -157,7 +157,7 @@ field-on st s n l f e = go (lineStep st n l) (yields st n l) e
     go (stop k m) d q = absurd (let w : _≡_ {A = ℕ} 0 1 = cc in omega arith)
 
 -- every line is good, the first being line n
-abbrev Each : (ℕ → Line → Type 0) → ℕ → List Line → Type 0
+abbrev pub Each : (ℕ → Line → Type 0) → ℕ → List Line → Type 0
 Each Good n [] = Unit
 Each Good n (l ∷ ls) = Good n l × Each Good (n + 1) ls
 
@@ -220,7 +220,7 @@ module _ (test : Field → Bool) (Good : ℕ → Line → Type 0) (passes : (st 
   unfolding allOf
   passes-more st s n l f fs g d h = both-true (test f) (allOf test fs) (passes st s n l f g d) h
 
-  every : (st : State) (n : ℕ) (ls : List Line) (fs : List Field) → Each Good n ls → pageFrom st n ls ≡ fields fs → allOf test fs ≡ true
+  pub every : (st : State) (n : ℕ) (ls : List Line) (fs : List Field) → Each Good n ls → pageFrom st n ls ≡ fields fs → allOf test fs ≡ true
   every = by-fields (λ s gs. allOf test gs ≡ true) Good passes-none passes-more
 
 any-line : (n : ℕ) (ls : List Line) → Each (λ k l. Unit) n ls
@@ -278,22 +278,29 @@ front-more : (t : List ℕ) (at b : ℕ) (bs : List ℕ) → b ∷ bs ≡ drop a
 front-more t at b bs e = ap (drop 1) e ∙ drop-drop 1 at t
 
 module _ (t : List ℕ) (at b : ℕ) (bs : List ℕ) (e : b ∷ bs ≡ drop at t) where
-  stretch-one : (n : ℕ) (ls : List Line) → Begins (at + 1) ls → Each (Stretch t) (n + 1) ls → Begins at (withByte at b ls) × Each (Stretch t) n (withByte at b ls)
+  again : (ms : List Line) (k : ℕ) → Each (Stretch t) (k + 1) ms → Each (Stretch t) k ms
+  again [] k h = tt
+  again (m ∷ ms) k h = (h .0, again ms (k + 1) (h .1))
+
+  -- the end of a line holds nothing, whichever it is
+  behind-end : (n : ℕ) (ls : List Line) → Each (Stretch t) (n + 1) ls → Each (Stretch t) (n + 1) (drop 1 ls)
+  behind-end n [] g = tt
+  behind-end n (l ∷ ls) g = again ls (n + 1) (g .1)
+
+  stretch-one : (n next : ℕ) (ls : List Line) → Begins (at + 1) ls → Each (Stretch t) (n + 1) ls
+      → Begins at (withByte at b next ls) × Each (Stretch t) n (withByte at b next ls)
   unfolding withByte onLine
-  stretch-one n ls h g = go (eqb b 10) ls h g
+  stretch-one n next ls h g = go (returnBeforeFeed b next) (eqb b 10) ls h g
     where
-      go : (x : Bool) (ls : List Line) → Begins (at + 1) ls → Each (Stretch t) (n + 1) ls
-          → Begins at (cond x (record { start = at; text = []; ended = true } ∷ ls) (onLine at b ls))
-          × Each (Stretch t) n (cond x (record { start = at; text = []; ended = true } ∷ ls) (onLine at b ls))
-      go true ls h g = (refl, (refl, g))
-      go false [] h g = (refl, (rw (← e) refl, tt))
-      go false (l ∷ ls) h g =
+      go : (r x : Bool) (ls : List Line) → Begins (at + 1) ls → Each (Stretch t) (n + 1) ls
+          → Begins at (cond r (endAt at ∷ drop 1 ls) (cond x (endAt at ∷ ls) (onLine at b ls)))
+          × Each (Stretch t) n (cond r (endAt at ∷ drop 1 ls) (cond x (endAt at ∷ ls) (onLine at b ls)))
+      go true x ls h g = (refl, (refl, behind-end n ls g))
+      go false true ls h g = (refl, (refl, g))
+      go false false [] h g = (refl, (rw (← e) refl, tt))
+      go false false (l ∷ ls) h g =
           let q : l .text ≡ take (length (l .text)) bs = g .0 ∙ rw (h, ← front-more t at b bs e) refl in
           (refl, (rw (← e) (ap (λ (x : List ℕ). b ∷ x) q), again ls (n + 1) (g .1)))
-        where
-          again : (ms : List Line) (k : ℕ) → Each (Stretch t) (k + 1) ms → Each (Stretch t) k ms
-          again [] k h = tt
-          again (m ∷ ms) k h = (h .0, again ms (k + 1) (h .1))
 
 lines-stretch : (t : List ℕ) (n at : ℕ) (xs : List ℕ) → xs ≡ drop at t → Begins at (linesFrom at xs) × Each (Stretch t) n (linesFrom at xs)
 unfolding linesFrom
@@ -301,8 +308,8 @@ lines-stretch t n at [] e = (tt, tt)
 lines-stretch t n at (b ∷ bs) e = go (lines-stretch t (n + 1) (at + 1) bs (front-more t at b bs e))
   where
     go : Begins (at + 1) (linesFrom (at + 1) bs) × Each (Stretch t) (n + 1) (linesFrom (at + 1) bs)
-        → Begins at (withByte at b (linesFrom (at + 1) bs)) × Each (Stretch t) n (withByte at b (linesFrom (at + 1) bs))
-    go h = stretch-one t at b bs e n (linesFrom (at + 1) bs) (h .0) (h .1)
+        → Begins at (withByte at b (nextByte bs) (linesFrom (at + 1) bs)) × Each (Stretch t) n (withByte at b (nextByte bs) (linesFrom (at + 1) bs))
+    go h = stretch-one t at b bs e n (nextByte bs) (linesFrom (at + 1) bs) (h .0) (h .1)
 
 -- what a line holds behind a place of it is the stretch from there on
 stretch-behind : (t : List ℕ) (n : ℕ) (l : Line) (k : ℕ) → Stretch t n l → drop k (l .text) ≡ take (length (drop k (l .text))) (drop (l .start + k) t)

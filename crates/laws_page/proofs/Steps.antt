@@ -8,7 +8,7 @@ use native.Mathlib.Omega.{arith}
 use lib.Dec.{eqb}
 use lib.ListN.{length, drop}
 use Rattle.paper.specs.Common.{isEmpty}
-use Rattle.paper.specs.Text.{Line, linesFrom, withByte, onLine, skipped}
+use Rattle.paper.specs.Text.{Line, nextByte, returnBeforeFeed, endAt, linesFrom, withByte, onLine, skipped}
 use Rattle.paper.specs.Listing.{rowAt, keyAt, atBlock, bareIsNone, valueFault}
 use Rattle.paper.specs.Page.{Outcome, fields, fault, State, Step, pass, stop, Field, isLeftEmpty, placesFor, placeOf, oneSpaceAndValue, fieldStep, afterKey, placeStep, unlessEmpty}
 use Rattle.paper.specs.Page.{lineStep, atEnd, andFields, after, pageFrom}
@@ -144,9 +144,12 @@ bounded st n (l ∷ ls) k m h e = go (lineStep st n l) refl (does st n l) e (λ 
 pub lines-few : (at : ℕ) (t : List ℕ) → length (linesFrom at t) ≤ length t
 unfolding linesFrom withByte onLine
 lines-few at [] = omega arith
-lines-few at (b ∷ bs) = go (eqb b 10) (linesFrom (at + 1) bs) (lines-few (at + 1) bs)
+lines-few at (b ∷ bs) = go (returnBeforeFeed b (nextByte bs)) (eqb b 10) (linesFrom (at + 1) bs) (lines-few (at + 1) bs)
   where
-    go : (t : Bool) (ls : List Line) → length ls ≤ length bs → length (cond t (record { start = at; text = []; ended = true } ∷ ls) (onLine at b ls)) ≤ suc (length bs)
-    go true ls h = omega arith
-    go false [] h = omega arith
-    go false (l ∷ ls) h = omega arith
+    go : (r t : Bool) (ls : List Line) → length ls ≤ length bs
+        → length (cond r (endAt at ∷ drop 1 ls) (cond t (endAt at ∷ ls) (onLine at b ls))) ≤ suc (length bs)
+    go true t [] h = omega arith
+    go true t (l ∷ ls) h = omega arith
+    go false true ls h = omega arith
+    go false false [] h = omega arith
+    go false false (l ∷ ls) h = omega arith

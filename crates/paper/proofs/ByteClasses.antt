@@ -6,7 +6,7 @@ use mathlib.Core.Bool.{Bool, cond}
 use mathlib.Core.List.{List, [], _∷_, _++_, map, flatMap}
 use Rattle.paper.specs.declared.Kind.the-variants.{Subject, Object}
 use Rattle.paper.specs.declared.Scalar.the-variants.{PatternElement}
-use Rattle.paper.specs.Common.{bytes, countUp}
+use Rattle.paper.specs.Common.{bytes, anyOf, countUp}
 use Rattle.paper.specs.Text.{mayStand}
 use Rattle.paper.specs.Scalars.{isLetter, isDigit, nameByte, isDomainName, isVariable, isUid, isGid, identifierByte, identifierFirst, isIdentifier, isScalar}
 use Rattle.paper.proofs.Computing.{computing}
@@ -29,10 +29,14 @@ digits-as-told : ofAll isDigit ≡ bytes "0123456789"
 unfolding computing
 digits-as-told = refl
 
--- "LF and 0x20 to 0x7E"
-bytes-of-a-text : ofAll mayStand ≡ 10 ∷ countUp 0x20 95
+-- "LF and 0x20 to 0x7E"; CR before LF, and before no other byte
+bytes-of-a-text : ofAll (λ b. mayStand b 10) ≡ 10 ∷ 13 ∷ countUp 0x20 95
 unfolding computing
 bytes-of-a-text = refl
+
+bytes-before-others : ofAll (λ next. anyOf (λ b. mayStand b next) (0 ∷ 9 ∷ 11 ∷ 12 ∷ 13 ∷ 14 ∷ 31 ∷ 127 ∷ [])) ≡ 10 ∷ []
+unfolding computing
+bytes-before-others = refl
 
 -- "letters, digits, `_`, `.`"
 bytes-of-a-name : ofAll nameByte ≡ bytes ".0123456789ABCDEFGHIJKLMNOPQRSTUVWXYZ_abcdefghijklmnopqrstuvwxyz"

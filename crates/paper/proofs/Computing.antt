@@ -1,7 +1,7 @@
 -- Every definition of the paper opened at once, so that a claim can be computed: a proof says `unfolding computing`.
 use mathlib.Core.List.{flatMap}
 use Rattle.paper.specs.Common.{allOf, anyOf, upTo, countUp, same, isFrontOf, isOne, among, numberIn, onPiece, cut}
-use Rattle.paper.specs.Text.{mayStand, badByteLine, onLine, withByte, linesFrom, column, skipped}
+use Rattle.paper.specs.Text.{returnBeforeFeed, mayStand, badByteLine, onLine, withByte, linesFrom, column, skipped}
 use Rattle.paper.specs.Scalars.{isLetter, isDigit, nameByte, isName, isDomainName, isVariable, isUid, isGid, sortNumber, sortOf, identifierByte, identifierFirst}
 use Rattle.paper.specs.Scalars.{isLineNumber, meets, objectSorts, isOfSort, partsFit, isIdentifier, isScalar}
 use Rattle.paper.specs.Lists.{bracketed, spaced, unspaced, elementsIn, elements, listFault}
@@ -26,7 +26,7 @@ use Rattle.paper.specs.Promises.{reportRefusal, Reported, lookupAnswer, 
 use Rattle.paper.specs.Program.{lastDigits, decimal, refusalLine, programWrites, programSize, programLeaves}
 
 unfoldable pub computing : Unit {0}
-unfolding flatMap allOf anyOf upTo countUp same isFrontOf isOne among numberIn onPiece cut mayStand badByteLine onLine withByte linesFrom column skipped
+unfolding flatMap allOf anyOf upTo countUp same isFrontOf isOne among numberIn onPiece cut returnBeforeFeed mayStand badByteLine onLine withByte linesFrom column skipped
     isLetter isDigit nameByte isName isDomainName isVariable isUid isGid sortOf identifierByte identifierFirst isLineNumber meets objectSorts isOfSort partsFit
     isIdentifier isScalar bracketed spaced unspaced elementsIn elements listFault bareIsNone valueFault listing rowAt keyAt dashed alongside beginsBlock atBlock
     beforeFirst isLeftEmpty placesFor placeOf oneSpaceAndValue fieldStep afterKey placeStep unlessEmpty lineStep atEnd pageFrom pageOf isAtOne callContexts

@@ -4,6 +4,7 @@ pub mod Example
 pub mod Texts
 pub mod Packed
 pub mod Refusals
+pub mod OfficeFiles
 pub mod LimitEdges
 pub mod NamedTwice
 pub mod UnknownNames

@@ -21,7 +21,7 @@ longIdentifier k n l =
 abbrev badBytes : List Trial
 badBytes =
     text "object_map: []\n#\t\nsubject_map: []\n" 3 2
-    ∷ text "object_map: []\r\nsubject_map: []\n" 3 1
+    ∷ text "object_map: []\r \nsubject_map: []\n" 3 1
     ∷ text "nothing right\n\n\u{7f}" 3 3
     ∷ text "\u{1f}\n\t\n" 3 1
     ∷ []

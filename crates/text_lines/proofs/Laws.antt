@@ -1,24 +1,25 @@
 -- One line of a text, and one byte of a line.
 use mathlib.Core.Path.{_≡_, refl, sym, ap, _∙_}
-use mathlib.Core.Bool.{Bool, true, false, cond, not, _&&_, _||_}
+use mathlib.Core.Bool.{Bool, true, false, cond, not, _&&_, _||_, and-assoc, and-true, false≢true}
 use mathlib.Core.List.{List, [], _∷_}
-use Prim.Native.Nat.{ℕ, suc, _+_, _<_, _≤_}
+use Prim.Native.Nat.{ℕ, zero, suc, _+_, _-_, _<_, _≤_}
 use native.Mathlib.Nat.{not-suc-le-zero}
 use native.Mathlib.Omega.{arith}
 use lib.Dec.{eqb}
 use lib.ListN.{length, getD, take, drop, length-drop, drop-of-length-le}
-use lib.Seq.{drop-length}
+use lib.Seq.{drop-length, getD-drop}
 use borrow.Author.Tests.{eqb-false, eq-eqb, ne-eqb, not-true, not-false}
-use Rattle.paper.specs.Common.{within, allOf}
-use Rattle.paper.specs.Text.{Line, linesFrom, withByte, onLine, column, skipped, mayStand, badByteLine}
+use Rattle.paper.specs.Common.{within}
+use Rattle.paper.specs.Text.{Line, nextByte, endAt, returnBeforeFeed, linesFrom, withByte, onLine, column, skipped, mayStand, badByteLine}
 use Rattle.laws.specs.Pieces.{before}
-use Rattle.laws.proofs.Pieces.{piece-length, piece-within, piece-short, piece-behind, piece-last}
+use Rattle.laws.specs.Standing.{allStand}
+use Rattle.laws.proofs.Pieces.{separator-at, piece-within, piece-short, piece-behind, piece-last}
 use Rattle.laws.proofs.Places.{drop-more}
-use Rattle.laws.proofs.Tests.{both-left, both-right}
+use Rattle.laws.proofs.Tests.{both-left, both-right, both-false}
+use Rattle.laws.proofs.Standing.{feed-no-return, none-bad}
 use Rattle.laws.proofs.Bytes.{find-again, find-here}
 use Rattle.laws.proofs.Chains.{tested-true}
-use Rattle.text_bytes.proofs.Laws.{right-done}
-use Rattle.text_lines.specs.Splits.{Splits, goesOn, fourGoOn}
+use Rattle.text_lines.specs.Splits.{Splits, goesOn, fourGoOn, heldBytes}
 
 -- ---- the way to the end of a line
 
@@ -44,57 +45,164 @@ module _ (t : List ℕ) (at : ℕ) where
   pub ends-here : at < length t → getD t at 0 ≡ 10 → at ≡ at + before 10 (drop at t)
   ends-here h e = find-here 10 t at at refl h e
 
+-- ---- the bytes that a line holds
+
+-- the byte before LF, where LF ends the line; 0 where none stands before it on the line
+abbrev beforeFeed : List ℕ → ℕ
+beforeFeed xs = getD (0 ∷ xs) (before 10 xs) 0
+
+feeds-next : (bs : List ℕ) → eqb (nextByte bs) 10 ≡ true → before 10 bs ≡ 0
+unfolding before
+feeds-next [] e = refl
+feeds-next (x ∷ xs) e = rw e refl
+
+before-on : (b : ℕ) (bs : List ℕ) → eqb b 10 ≡ false → before 10 (b ∷ bs) ≡ suc (before 10 bs)
+unfolding before
+before-on b bs e = rw e refl
+
+held-none : (xs : List ℕ) → before 10 xs ≡ 0 → before 10 xs < length xs → heldBytes xs ≡ 0
+unfolding heldBytes before
+held-none [] e h = refl
+held-none (x ∷ xs) e h = go (returnBeforeFeed x (nextByte xs)) (eqb x 10) e
+  where
+    go : (r t : Bool) → cond t 0 (suc (before 10 xs)) ≡ 0 → cond r 0 (cond t 0 (suc (heldBytes xs))) ≡ 0
+    go true t e = refl
+    go false true e = refl
+    go false false e = absurd (omega arith)
+
+held-on : (b : ℕ) (bs : List ℕ) → eqb b 10 ≡ false → (eqb b 13 && eqb (nextByte bs) 10) ≡ false → heldBytes (b ∷ bs) ≡ suc (heldBytes bs)
+unfolding heldBytes returnBeforeFeed
+held-on b bs e r = rw (r, e) refl
+
+held-return : (b : ℕ) (bs : List ℕ) → eqb b 13 ≡ true → eqb (nextByte bs) 10 ≡ true → heldBytes (b ∷ bs) ≡ 0
+unfolding heldBytes returnBeforeFeed
+held-return b bs e r = rw (e, r) refl
+
+module _ (b : ℕ) (bs : List ℕ) (e : eqb b 10 ≡ false) (h : before 10 bs < length bs) (ih : heldBytes bs + cond (eqb (beforeFeed bs) 13) 1 0 ≡ before 10 bs) where
+  -- LF stands directly behind b
+  held-last : before 10 bs ≡ 0 → heldBytes (b ∷ bs) + cond (eqb b 13) 1 0 ≡ 1
+  held-last z = go (eqb b 13) refl
+    where
+      feed : eqb (nextByte bs) 10 ≡ true
+      feed = eq-eqb _ _ (rw z at (separator-at 10 bs h))
+
+      go : (r : Bool) → eqb b 13 ≡ r → heldBytes (b ∷ bs) + cond (eqb b 13) 1 0 ≡ 1
+      go true f = rw (held-return b bs f feed, f) refl
+      go false f = rw (held-on b bs e (rw f refl), held-none bs z h, f) refl
+
+  -- it stands further on
+  held-further : (k : ℕ) → before 10 bs ≡ suc k → heldBytes (b ∷ bs) + cond (eqb (getD bs k 0) 13) 1 0 ≡ suc (suc k)
+  held-further k z = go (eqb (nextByte bs) 10) refl
+    where
+      go : (r : Bool) → eqb (nextByte bs) 10 ≡ r → heldBytes (b ∷ bs) + cond (eqb (getD bs k 0) 13) 1 0 ≡ suc (suc k)
+      go true f = absurd (omega (arith, feeds-next bs f))
+      go false f =
+          let i : heldBytes bs + cond (eqb (getD bs k 0) 13) 1 0 ≡ suc k = rw z at ih in
+          omega (arith, held-on b bs e (both-false (eqb b 13) (eqb (nextByte bs) 10) f), i)
+
+  held-more : (k : ℕ) → before 10 bs ≡ k → heldBytes (b ∷ bs) + cond (eqb (getD (b ∷ bs) k 0) 13) 1 0 ≡ suc k
+  held-more zero z = held-last z
+  held-more (suc k) z = held-further k z
+
+-- all bytes before LF, but for a CR directly before it
+held-told : (xs : List ℕ) → before 10 xs < length xs → heldBytes xs + cond (eqb (beforeFeed xs) 13) 1 0 ≡ before 10 xs
+held-told [] h = absurd (not-suc-le-zero h)
+held-told (b ∷ bs) h = go (eqb b 10) refl (λ k. held-told bs k)
+  where
+    go : (t : Bool) → eqb b 10 ≡ t → (before 10 bs < length bs → heldBytes bs + cond (eqb (beforeFeed bs) 13) 1 0 ≡ before 10 bs)
+        → heldBytes (b ∷ bs) + cond (eqb (beforeFeed (b ∷ bs)) 13) 1 0 ≡ before 10 (b ∷ bs)
+    go true e ih = let z = feeds-next (b ∷ bs) e in rw (held-none (b ∷ bs) z h, z) refl
+    go false e ih =
+        let k : before 10 bs < length bs = omega (arith, before-on b bs e, h) in
+        rw (before-on b bs e) (held-more b bs e k (ih k) (before 10 bs) refl)
+
+module _ (t : List ℕ) (at feed : ℕ) (f : feed ≡ at + before 10 (drop at t)) (h : feed < length t) where
+  held-here : heldBytes (drop at t) + cond (eqb (beforeFeed (drop at t)) 13) 1 0 ≡ before 10 (drop at t)
+  held-here = held-told (drop at t) (piece-short 10 t at feed f h)
+
+  pub held-within : heldBytes (drop at t) ≤ before 10 (drop at t)
+  held-within = omega (arith, held-here)
+
+  pub end-empty : feed ≤ at → feed ≡ at + heldBytes (drop at t)
+  end-empty k = omega (arith, held-within)
+
+  before-is : at < feed → beforeFeed (drop at t) ≡ getD t (feed - 1) 0
+  before-is k = go (before 10 (drop at t)) refl
+    where
+      go : (n : ℕ) → before 10 (drop at t) ≡ n → getD (0 ∷ drop at t) n 0 ≡ getD t (feed - 1) 0
+      go zero z = absurd (omega arith)
+      go (suc n) z = let q : at + n ≡ feed - 1 = omega arith in getD-drop at t n 0 ∙ rw q refl
+
+  pub end-return : at < feed → getD t (feed - 1) 0 ≡ 13 → feed - 1 ≡ at + heldBytes (drop at t)
+  end-return k e =
+      let q : heldBytes (drop at t) + 1 ≡ before 10 (drop at t) = rw (before-is k, eq-eqb _ _ e) at held-here in
+      omega arith
+
+  pub end-plain : at < feed → (getD t (feed - 1) 0 ≡ 13 → ⊥) → feed ≡ at + heldBytes (drop at t)
+  end-plain k e =
+      let q : heldBytes (drop at t) + 0 ≡ before 10 (drop at t) = rw (before-is k, ne-eqb _ _ e) at held-here in
+      omega arith
+
 -- ---- the first line, and what is left
 
+-- the lines of a byte more, by whether it is a CR, LF stands behind it, and it is LF
+abbrev onward : ℕ → ℕ → Bool → Bool → Bool → List Line → List Line
+onward at b c n f ls = cond (c && n) (endAt at ∷ drop 1 ls) (cond f (endAt at ∷ ls) (onLine at b ls))
+
 ended-line : (at : ℕ) (xs : List ℕ) → before 10 xs < length xs
-    → linesFrom at xs ≡ record { start = at; text = take (before 10 xs) xs; ended = true } ∷ linesFrom (at + suc (before 10 xs)) (drop (suc (before 10 xs)) xs)
-unfolding before linesFrom withByte onLine
+    → linesFrom at xs ≡ record { start = at; text = take (heldBytes xs) xs; ended = true } ∷ linesFrom (at + suc (before 10 xs)) (drop (suc (before 10 xs)) xs)
+unfolding before heldBytes linesFrom withByte onLine returnBeforeFeed
 ended-line at [] h = absurd (not-suc-le-zero h)
-ended-line at (b ∷ bs) h = go (eqb b 10) h (λ k. ended-line (at + 1) bs k)
+ended-line at (b ∷ bs) h = go (eqb b 13) refl (eqb (nextByte bs) 10) (eqb b 10) refl h (λ k. ended-line (at + 1) bs k)
   where
-    go : (t : Bool) → cond t 0 (suc (before 10 bs)) < suc (length bs)
+    q : at + 1 + suc (before 10 bs) ≡ at + suc (suc (before 10 bs))
+    q = omega arith
+
+    go : (c : Bool) → eqb b 13 ≡ c → (n f : Bool) → eqb b 10 ≡ f → cond f 0 (suc (before 10 bs)) < suc (length bs)
         → (before 10 bs < length bs
-        → linesFrom (at + 1) bs ≡ record { start = at + 1; text = take (before 10 bs) bs; ended = true } ∷ linesFrom (at + 1 + suc (before 10 bs)) (drop (suc (before 10 bs)) bs))
-        → cond t (record { start = at; text = []; ended = true } ∷ linesFrom (at + 1) bs) (onLine at b (linesFrom (at + 1) bs))
-        ≡ record { start = at; text = take (cond t 0 (suc (before 10 bs))) (b ∷ bs); ended = true }
-        ∷ linesFrom (at + suc (cond t 0 (suc (before 10 bs)))) (drop (suc (cond t 0 (suc (before 10 bs)))) (b ∷ bs))
-    go true k ih = refl
-    go false k ih =
-        let q : at + 1 + suc (before 10 bs) ≡ at + suc (suc (before 10 bs)) = omega arith in
-        ap (onLine at b) (ih (omega arith)) ∙ rw q refl
+        → linesFrom (at + 1) bs ≡ record { start = at + 1; text = take (heldBytes bs) bs; ended = true } ∷ linesFrom (at + 1 + suc (before 10 bs)) (drop (suc (before 10 bs)) bs))
+        → onward at b c n f (linesFrom (at + 1) bs)
+        ≡ record { start = at; text = take (cond (c && n) 0 (cond f 0 (suc (heldBytes bs)))) (b ∷ bs); ended = true }
+        ∷ linesFrom (at + suc (cond f 0 (suc (before 10 bs)))) (drop (suc (cond f 0 (suc (before 10 bs)))) (b ∷ bs))
+    go true r n true e k ih = absurd (false≢true (sym (feed-no-return b e) ∙ r))
+    go false r n true e k ih = refl
+    go true r true false e k ih = ap (λ (ls : List Line). endAt at ∷ drop 1 ls) (ih (omega arith)) ∙ rw q refl
+    go true r false false e k ih = ap (onLine at b) (ih (omega arith)) ∙ rw q refl
+    go false r n false e k ih = ap (onLine at b) (ih (omega arith)) ∙ rw q refl
 
 open-line : (at : ℕ) (xs : List ℕ) → length xs ≤ before 10 xs → 0 < length xs → linesFrom at xs ≡ record { start = at; text = xs; ended = false } ∷ []
-unfolding before linesFrom withByte onLine
+unfolding before linesFrom withByte onLine returnBeforeFeed
 open-line at [] h k = absurd (not-suc-le-zero k)
-open-line at (b ∷ []) h k = go (eqb b 10) h
+open-line at (b ∷ []) h k = go (eqb b 13) (eqb b 10) h
   where
-    go : (t : Bool) → 1 ≤ cond t 0 1
-        → cond {A = List Line} t (record { start = at; text = []; ended = true } ∷ []) (record { start = at; text = b ∷ []; ended = false } ∷ [])
-        ≡ record { start = at; text = b ∷ []; ended = false } ∷ []
-    go true q = absurd (omega arith)
-    go false q = refl
-open-line at (b ∷ x ∷ xs) h k = go (eqb b 10) h (λ q. open-line (at + 1) (x ∷ xs) q (omega arith))
+    go : (c f : Bool) → 1 ≤ cond f 0 1 → onward at b c false f [] ≡ record { start = at; text = b ∷ []; ended = false } ∷ []
+    go c true q = absurd (omega arith)
+    go true false q = refl
+    go false false q = refl
+open-line at (b ∷ x ∷ xs) h k = go (eqb b 13) (eqb x 10) refl (eqb b 10) h (λ q. open-line (at + 1) (x ∷ xs) q (omega arith))
   where
-    go : (t : Bool) → suc (suc (length xs)) ≤ cond t 0 (suc (before 10 (x ∷ xs)))
+    go : (c n : Bool) → eqb x 10 ≡ n → (f : Bool) → suc (suc (length xs)) ≤ cond f 0 (suc (before 10 (x ∷ xs)))
         → (suc (length xs) ≤ before 10 (x ∷ xs) → linesFrom (at + 1) (x ∷ xs) ≡ record { start = at + 1; text = x ∷ xs; ended = false } ∷ [])
-        → cond t (record { start = at; text = []; ended = true } ∷ linesFrom (at + 1) (x ∷ xs)) (onLine at b (linesFrom (at + 1) (x ∷ xs)))
-        ≡ record { start = at; text = b ∷ x ∷ xs; ended = false } ∷ []
-    go true q ih = absurd (omega arith)
-    go false q ih = ap (onLine at b) (ih (omega arith))
+        → onward at b c n f (linesFrom (at + 1) (x ∷ xs)) ≡ record { start = at; text = b ∷ x ∷ xs; ended = false } ∷ []
+    go c n e true q ih = absurd (omega arith)
+    go c true e false q ih = absurd (omega (arith, feeds-next (x ∷ xs) e))
+    go true false e false q ih = ap (onLine at b) (ih (omega arith))
+    go false false e false q ih = ap (onLine at b) (ih (omega arith))
 
 module _ (t : List ℕ) (at e : ℕ) (f : e ≡ at + before 10 (drop at t)) (w : at < length t) where
-  pub splits-ended : e < length t → Splits t at (record { end = e; next = e + 1; ended = true })
-  splits-ended h = record {
+  pub splits-ended : (end : ℕ) → end ≡ at + heldBytes (drop at t) → e < length t → Splits t at (record { end = end; next = e + 1; ended = true })
+  splits-ended end g h = record {
     splits =
         let q : at + suc (before 10 (drop at t)) ≡ e + 1 = omega arith in
-        rw (piece-length 10 t at e f)
+        let z : end - at ≡ heldBytes (drop at t) = omega arith in
+        rw z
         (ended-line at (drop at t) (piece-short 10 t at e f h)
         ∙ rw (q, piece-behind 10 t at e f) refl);
     after = omega arith;
-    inside = omega arith;
+    inside = omega (arith, held-within t at e f h);
     further = omega arith;
     stays = omega arith;
-    fed = λ q. omega arith;
+    fed = λ q. omega (arith, held-within t at e f h);
   }
 
   pub splits-open : length t ≤ e → Splits t at (record { end = e; next = length t; ended = false })
@@ -156,21 +264,38 @@ skipped-else l k e h =
 
 -- ---- bytes that may stand
 
-pub stands-is : (b : ℕ) (w : Bool) → w ≡ within 0x20 0x7E b → (eqb b 10 || w) ≡ mayStand b
-unfolding mayStand
-stands-is b w e = rw e
+pub stands-is : (b next : ℕ) (w : Bool) → w ≡ within 0x20 0x7E b → (eqb b 10 || w || (eqb b 13 && eqb next 10)) ≡ mayStand b next
+unfolding mayStand returnBeforeFeed
+stands-is b next w e = rw e
 
-pub stands-told : (t : List ℕ) (i : ℕ) (right : Bool) → (right && allOf mayStand (drop i t)) ≡ allOf mayStand t → length t ≤ i → not right ≡ not (allOf mayStand t)
-stands-told t i right inv h = ap not (right-done mayStand t i right inv h)
+-- the first byte of what is left
+next-is : (t : List ℕ) (i : ℕ) → nextByte (drop i t) ≡ getD t i 0
+next-is t i = let q : i + 0 ≡ i = omega arith in getD-drop i t 0 0 ∙ rw q refl
 
--- where every byte may stand, no line is that of a bad byte
-none-bad : (n : ℕ) (t : List ℕ) → allOf mayStand t ≡ true → badByteLine n t ≡ 0
-unfolding allOf badByteLine
-none-bad n [] h = refl
-none-bad n (b ∷ bs) h = rw (both-left (mayStand b) (allOf mayStand bs) h) (none-bad _ bs (both-right (mayStand b) (allOf mayStand bs) h))
+-- one byte more, before the next
+stand-more : (t : List ℕ) (i : ℕ) → i < length t → allStand (drop i t) ≡ (mayStand (getD t i 0) (getD t (i + 1) 0) && allStand (drop (i + 1) t))
+unfolding allStand
+stand-more t i h = rw (drop-more t i h, next-is t (i + 1)) refl
 
-pub bad-nowhere : (t : List ℕ) (r : Bool) → r ≡ not (allOf mayStand t) → not r ≡ true → 0 ≡ badByteLine 1 t
-bad-nowhere t r e h = sym (none-bad 1 t (go (allOf mayStand t) r e h))
+module _ (t : List ℕ) (i : ℕ) (right : Bool) (inv : (right && allStand (drop i t)) ≡ allStand t) where
+  pub stand-again : (r : Bool) → i + 1 < length t → r ≡ mayStand (getD t i 0) (getD t (i + 1) 0) → (right && r && allStand (drop (i + 1) t)) ≡ allStand t
+  stand-again r h e =
+      rw (← inv, stand-more t i (omega arith), e) (and-assoc right (mayStand (getD t i 0) (getD t (i + 1) 0)) (allStand (drop (i + 1) t)))
+
+  pub stand-last : (r : Bool) (n : ℕ) → i < length t → length t ≤ i + 1 → n ≡ getD t (i + 1) 0 → r ≡ mayStand (getD t i 0) n → not (right && r) ≡ not (allStand t)
+  unfolding allStand
+  stand-last r n h k f e =
+      rw (← inv, stand-more t i h, e, f, drop-of-length-le t k, and-true)
+
+  pub stand-none : length t ≤ i → not right ≡ not (allStand t)
+  unfolding allStand
+  stand-none h = rw (← inv, drop-of-length-le t h, and-true)
+
+pub behind-none : (t : List ℕ) (i : ℕ) → length t ≤ i + 1 → 0 ≡ getD t (i + 1) 0
+behind-none t i h = sym (ap nextByte (drop-of-length-le t h)) ∙ next-is t (i + 1)
+
+pub bad-nowhere : (t : List ℕ) (r : Bool) → r ≡ not (allStand t) → not r ≡ true → 0 ≡ badByteLine 1 t
+bad-nowhere t r e h = sym (none-bad 1 t (go (allStand t) r e h))
   where
     go : (x y : Bool) → y ≡ not x → not y ≡ true → x ≡ true
     go true y f g = refl
@@ -183,13 +308,19 @@ pub behind-else : (b n : ℕ) → (b ≡ 10 → ⊥) → n ≡ cond (eqb b 10) (
 behind-else b n e = rw (ne-eqb b 10 e)
 
 module _ (t : List ℕ) (i n : ℕ) (inv : badByteLine n (drop i t) ≡ badByteLine 1 t) where
-  pub bad-again : (r : Bool) (m : ℕ) → i < length t → r ≡ mayStand (getD t i 0) → not r ≡ false → m ≡ cond (eqb (getD t i 0) 10) (n + 1) n → badByteLine m (drop (i + 1) t) ≡ badByteLine 1 t
+  bad-opened : i < length t
+      → cond (mayStand (getD t i 0) (getD t (i + 1) 0)) (badByteLine (cond (eqb (getD t i 0) 10) (n + 1) n) (drop (i + 1) t)) n ≡ badByteLine 1 t
   unfolding badByteLine
-  bad-again r m h e f g = let k : mayStand (getD t i 0) ≡ true = sym e ∙ not-false r f in rw (← inv, drop-more t i h, k, g)
+  bad-opened h = rw (← inv, drop-more t i h, next-is t (i + 1)) refl
 
-  pub bad-here : (r : Bool) → i < length t → r ≡ mayStand (getD t i 0) → not r ≡ true → n ≡ badByteLine 1 t
-  unfolding badByteLine
-  bad-here r h e f = let k : mayStand (getD t i 0) ≡ false = sym e ∙ not-true r f in rw (← inv, drop-more t i h, k)
+  pub bad-again : (r : Bool) (next m : ℕ) → i < length t → next ≡ getD t (i + 1) 0 → r ≡ mayStand (getD t i 0) next → not r ≡ false → m ≡ cond (eqb (getD t i 0) 10) (n + 1) n
+      → badByteLine m (drop (i + 1) t) ≡ badByteLine 1 t
+  bad-again r next m h z e f g =
+      let k : mayStand (getD t i 0) (getD t (i + 1) 0) ≡ true = rw z at (sym e ∙ not-false r f) in rw (← bad-opened h, k, g) refl
+
+  pub bad-here : (r : Bool) (next : ℕ) → i < length t → next ≡ getD t (i + 1) 0 → r ≡ mayStand (getD t i 0) next → not r ≡ true → n ≡ badByteLine 1 t
+  bad-here r next h z e f =
+      let k : mayStand (getD t i 0) (getD t (i + 1) 0) ≡ false = rw z at (sym e ∙ not-true r f) in rw (← bad-opened h, k) refl
 
   pub bad-none : length t ≤ i → 0 ≡ badByteLine 1 t
   unfolding badByteLine

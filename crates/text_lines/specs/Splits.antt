@@ -1,11 +1,11 @@
 -- What it is to split off one line: whoever reads lines stands on this and on nothing else.
 use mathlib.Core.Path.{_≡_}
-use mathlib.Core.Bool.{Bool, true, not, _&&_}
-use mathlib.Core.List.{List, _∷_}
-use Prim.Native.Nat.{ℕ, _+_, _-_, _<_, _≤_}
+use mathlib.Core.Bool.{Bool, true, cond, not, _&&_}
+use mathlib.Core.List.{List, [], _∷_}
+use Prim.Native.Nat.{ℕ, suc, _+_, _-_, _<_, _≤_}
 use lib.Dec.{eqb}
 use lib.ListN.{length, getD, take, drop}
-use Rattle.paper.specs.Text.{lineFeed, linesFrom}
+use Rattle.paper.specs.Text.{lineFeed, nextByte, returnBeforeFeed, linesFrom}
 use Rattle.text_lines.specs.declared.LineAt.{LineAt}
 
 -- the lines from `at` on are the line from `at` to its end, and the lines from the next on
@@ -19,6 +19,11 @@ pub record Splits (t : List ℕ) (at : ℕ) (l : LineAt) : Type 0 where
   pub stays : l .next ≤ length t
   -- LF stands between the two
   pub fed : l .ended ≡ true → l .end < l .next
+
+-- how many bytes the first line of a text holds: those before its end, which is LF, or CR LF
+unfoldable pub heldBytes : List ℕ → ℕ
+heldBytes [] = 0
+heldBytes (b ∷ bs) = cond (returnBeforeFeed b (nextByte bs)) 0 (cond (eqb b lineFeed) 0 (suc (heldBytes bs)))
 
 -- a line goes on behind this place: the byte there does not end it
 abbrev pub goesOn : List ℕ → ℕ → Bool

@@ -5,11 +5,11 @@ ghost use mathlib.Core.Path.{_≡_};
 ghost use mathlib.Core.Bool.{cond, not};
 ghost use Prim.Native.Nat.{_+_, _^_, _<_, _≤_};
 ghost use lib.Dec.{eqb};
-ghost use lib.ListN.{length, drop};
-ghost use Rattle.paper.specs.Common.{allOf};
+ghost use lib.ListN.{length, getD, drop};
 ghost use Rattle.paper.specs.Text.{lineFeed, mayStand, badByteLine, column, skipped};
 ghost use Rattle.laws.specs.Pieces.{before};
-ghost use Rattle.text_lines.specs.Splits.{Splits, fourGoOn};
+ghost use Rattle.laws.specs.Standing.{allStand};
+ghost use Rattle.text_lines.specs.Splits.{Splits, fourGoOn, heldBytes};
 
 // A line that begins at some place of a text: its bytes end at `end`, the next line begins at `next`.
 pub struct LineAt {
@@ -54,20 +54,35 @@ fn line_end(text: &[u8], at: usize) -> usize
     text_bytes::find(text, near_end(text, at), byte::LINE_FEED)
 }
 
+// Where the bytes of a line end that begins at `at` and that the LF at `feed` ends: a CR directly before LF belongs to the line's end.
+fn bytes_end(text: &[u8], at: usize, feed: usize) -> usize
+    requires { ⌜ feed ≡ at + before lineFeed (drop at (now text)) ⌝ }
+    requires { ⌜ feed < length (now text) ⌝ }
+    ensures { λ r. ⌜ r ≡ at + heldBytes (drop at (now (text .entry))) ⌝ }
+{
+    if feed <= at {
+        return feed;
+    }
+    if text[feed - 1] == byte::CARRIAGE_RETURN {
+        return feed - 1;
+    }
+    feed
+}
+
 pub fn line_at(text: &[u8], at: usize) -> LineAt
     requires { ⌜ at < length (now text) ⌝ }
     ensures { λ r. ⌜ Splits (now (text .entry)) at r ⌝ }
 {
-    let end = line_end(text, at);
-    if end < text.len() {
+    let feed = line_end(text, at);
+    if feed < text.len() {
         return LineAt {
-            end,
-            next: end + 1,
+            end: bytes_end(text, at, feed),
+            next: feed + 1,
             ended: true,
         };
     }
     LineAt {
-        end,
+        end: feed,
         next: text.len(),
         ended: false,
     }
@@ -96,21 +111,37 @@ pub fn skipped(l: &[u8]) -> bool
     l[k] == byte::HASH
 }
 
-fn may_stand(b: u8) -> bool
-    ensures { λ r. ⌜ r ≡ mayStand b ⌝ }
+// A byte may stand before the next one.
+fn may_stand(b: u8, next: u8) -> bool
+    ensures { λ r. ⌜ r ≡ mayStand b next ⌝ }
 {
-    (b == byte::LINE_FEED) | text_bytes::within(b' ', b'~', b)
+    let ends_line = (b == byte::CARRIAGE_RETURN) & (next == byte::LINE_FEED);
+    (b == byte::LINE_FEED) | text_bytes::within(b' ', b'~', b) | ends_line
 }
 
-// Some byte may not stand. The loop has no exit, so that it takes many bytes at a time.
+// The byte behind a place; at the end of the text 0, which may stand nowhere.
+fn byte_behind(text: &[u8], i: usize) -> u8
+    requires { ⌜ i < length (now text) ⌝ }
+    ensures { λ r. ⌜ r ≡ getD (now (text .entry)) (i + 1) 0 ⌝ }
+{
+    if i + 1 < text.len() {
+        return text[i + 1];
+    }
+    0
+}
+
+// Some byte may not stand. The loop has no exit, so that it takes many bytes at a time; the last byte has none behind it.
 fn has_bad_byte(text: &[u8]) -> bool
-    ensures { λ r. ⌜ r ≡ not (allOf mayStand (now (text .entry))) ⌝ }
+    ensures { λ r. ⌜ r ≡ not (allStand (now (text .entry))) ⌝ }
 {
     let mut right = true;
     let mut i: usize = 0;
-    while i < text.len() {
-        right = right & may_stand(text[i]);
+    while i + 1 < text.len() {
+        right = right & may_stand(text[i], text[i + 1]);
         i += 1;
+    }
+    if i < text.len() {
+        return !(right & may_stand(text[i], byte_behind(text, i)));
     }
     !right
 }
@@ -140,7 +171,7 @@ pub fn bad_byte_line(text: &[u8]) -> usize
     let mut i: usize = 0;
     while i < text.len() {
         let b = text[i];
-        if !may_stand(b) {
+        if !may_stand(b, byte_behind(text, i)) {
             return line;
         }
         line = line_behind(b, line);

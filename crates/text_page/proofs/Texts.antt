@@ -11,7 +11,7 @@ use lib.ListN.{length}
 use borrow.Author.Tests.{lt-ltb, le-ltb}
 use Rattle.paper.specs.declared.Reading.{Reading}
 use Rattle.paper.specs.declared.Reading.the-variants.{Accepted, Unread}
-use Rattle.paper.specs.Text.{mayStand, badByteLine, lines}
+use Rattle.paper.specs.Text.{nextByte, mayStand, badByteLine, lines}
 use Rattle.paper.specs.Page as paper
 use Rattle.paper.specs.Page.{Outcome, fields, fault, andFields, beforeFirst, pageOf}
 use Rattle.paper.specs.Rules.{unlessLine}
@@ -86,7 +86,7 @@ module _ (t : List ℕ) (c : Cursor) (r : next.Next) (e : pageLeft t c ≡ pageN
 pub bad-within : (n : ℕ) (t : List ℕ) → badByteLine n t ≤ n + length t
 unfolding badByteLine
 bad-within n [] = omega arith
-bad-within n (b ∷ bs) = go (mayStand b) (eqb b 10) (λ m. bad-within m bs)
+bad-within n (b ∷ bs) = go (mayStand b (nextByte bs)) (eqb b 10) (λ m. bad-within m bs)
   where
     go : (s e : Bool) → ((m : ℕ) → badByteLine m bs ≤ m + length bs) → cond s (badByteLine (cond e (n + 1) n) bs) n ≤ n + suc (length bs)
     go true true ih = omega (arith, ih (n + 1))

@@ -9,7 +9,7 @@ use mir.Val.{Fits}
 use lib.Dec.{eqb}
 use lib.ListN.{length, take, drop, length-take, length-drop, drop-of-length-le}
 use lib.Seq.{drop-drop}
-use Rattle.paper.specs.Text.{Line, linesFrom, withByte, onLine}
+use Rattle.paper.specs.Text.{Line, nextByte, returnBeforeFeed, endAt, linesFrom, withByte, onLine}
 use Rattle.paper.specs.Listing.{rowAt}
 use Rattle.paper.specs.Page as paper
 use Rattle.paper.specs.Page.{Outcome, fields, fault, andFields, after, isLeftEmpty, lineStep, atEnd, pageFrom}
@@ -29,14 +29,15 @@ use Rattle.text_page.specs.declared.step.Step.the-variants as steps
 use Rattle.text_page.specs.declared.Next as next
 use Rattle.text_page.specs.declared.Next.the-variants.{Field, End, Fault}
 
-first-start : (end at b : ℕ) (ls : List Line) → startOf end (withByte at b ls) ≡ at
+first-start : (end at b next : ℕ) (ls : List Line) → startOf end (withByte at b next ls) ≡ at
 unfolding withByte onLine
-first-start end at b ls = go (eqb b 10) ls
+first-start end at b next ls = go (returnBeforeFeed b next) (eqb b 10) ls
   where
-    go : (x : Bool) (ms : List Line) → startOf end (cond x (record { start = at; text = []; ended = true } ∷ ms) (onLine at b ms)) ≡ at
-    go true ms = refl
-    go false [] = refl
-    go false (m ∷ ms) = refl
+    go : (r x : Bool) (ms : List Line) → startOf end (cond r (endAt at ∷ drop 1 ms) (cond x (endAt at ∷ ms) (onLine at b ms))) ≡ at
+    go true x ms = refl
+    go false true ms = refl
+    go false false [] = refl
+    go false false (m ∷ ms) = refl
 
 -- the lines from a place on start there
 starts-at : (t : List ℕ) (at : ℕ) → at ≤ length t → startOf (length t) (linesFrom at (drop at t)) ≡ at
@@ -45,7 +46,7 @@ starts-at t at h = go (drop at t) refl
   where
     go : (xs : List ℕ) → drop at t ≡ xs → startOf (length t) (linesFrom at xs) ≡ at
     go [] e = let k : length (drop at t) ≡ 0 = ap length e in omega (arith, length-drop at t)
-    go (b ∷ bs) e = first-start (length t) at b (linesFrom (at + 1) bs)
+    go (b ∷ bs) e = first-start (length t) at b (nextByte bs) (linesFrom (at + 1) bs)
 
 no-fields : (p : Outcome) → andFields [] p ≡ p
 no-fields (fields fs) = refl

@@ -2,6 +2,7 @@
 
 use crate::dice::Dice;
 use crate::draft::{entry, Access, Context, Draft, Grant};
+use crate::ends;
 
 /// One fault in what a file says: repeats, unknown names, unbound variables,
 /// equal principals, malformed scalars.
@@ -445,7 +446,7 @@ pub fn bytes(dice: &mut Dice, text: &mut Vec<u8>) {
     ];
     let byte = *dice.pick(&BYTES);
     let at = dice.below(text.len());
-    match dice.below(9) {
+    match dice.below(11) {
         0 if text.last() == Some(&b'\n') => drop(text.pop()),
         1 => text.extend_from_slice(
             dice.word(&["# c", "  ", "more: []\n", " ", "      # c"])
@@ -454,6 +455,7 @@ pub fn bytes(dice: &mut Dice, text: &mut Vec<u8>) {
         2 => text.truncate(at),
         3 | 4 if !text.is_empty() => drop(text.remove(at)),
         5 | 6 if !text.is_empty() => text[at] = byte,
+        7 | 8 => ends::stray(dice, text),
         _ => text.insert(at, byte),
     }
 }

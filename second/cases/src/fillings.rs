@@ -1,10 +1,11 @@
 //! The texts that are stored for the filler, each with how many bytes of an
 //! output are lent: document 01's example, a file of nothing, every field put in
-//! every way, the limits of whole texts, and short texts of every sort.
+//! every way, the limits of whole texts, line ends of every sort, and short texts
+//! of every sort.
 
 use crate::dice::Dice;
 use crate::draft::{Access, Context, Domain, Draft, Entry, Grant, Item};
-use crate::{limits, texts, write};
+use crate::{ends, limits, texts, write};
 use second::refusal::{
     BYTE, COUNT, EMPTY, LAYOUT, SAME_PRINCIPAL, SCALAR, TWICE, UNBOUND, UNKNOWN,
 };
@@ -42,6 +43,7 @@ pub fn all(seed: u64) -> Vec<Filling> {
     // With no room, so that 31 is seen to go before 30.
     all.push((limits::text(limits::LONG_FILLED, true).0, 0));
     all.push((limits::text(limits::LONG_TEXT, true).0, 0));
+    all.extend(ends::stored().into_iter().map(exact));
     all.extend((0..SHORT_TEXTS).map(|case| short(case, &mut Dice::of_case(seed, case as u64))));
     all
 }

@@ -24,7 +24,8 @@ pub fn texts() -> &'static [Large] {
         let all = [
             ("patterns", patterned(&short_functions()), 0),
             ("long names", patterned(&long_functions()), 0),
-            ("ordinary", ordinary(), 0),
+            ("ordinary", ordinary("\n"), 0),
+            ("ordinary, CR LF", ordinary("\r\n"), 0),
             ("grants", grants(), 0),
             ("short entries", short_entries(), 0),
             ("every limit", every_limit(), 0),
@@ -114,8 +115,8 @@ fn long_functions() -> Vec<String> {
     (0..MEMBERS).map(function).collect()
 }
 
-/// Names and sizes as programs have them.
-fn ordinary() -> String {
+/// Names and sizes as programs have them, each line with this end.
+fn ordinary(end: &str) -> String {
     const MODULES: [&str; 16] = [
         "net", "tls", "http", "json", "log", "auth", "cache", "db", "queue", "timer", "config",
         "crypto", "fs", "ipc", "metrics", "ui",
@@ -150,12 +151,13 @@ fn ordinary() -> String {
             objects.push(format!("{module}_{file}.data"));
         }
     }
-    let mut text = format!(
+    let maps = format!(
         "# A policy.\nobject_map:\n{object_map}\nsubject_map:\n{subject_map}\nprivileges:\n"
     );
+    let mut text = maps.replace('\n', end);
     // Each has three descriptors.
     for number in 0..DESCRIPTORS / 3 {
-        let entry = ordinary_entry(&mut dice, number, &functions, &objects);
+        let entry = ordinary_entry(&mut dice, number, &functions, &objects).replace('\n', end);
         if text.len() + entry.len() > LIMIT {
             break;
         }

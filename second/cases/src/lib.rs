@@ -8,6 +8,7 @@
 pub mod damage;
 pub mod dice;
 pub mod draft;
+pub mod ends;
 pub mod events;
 pub mod fillings;
 pub mod findings;

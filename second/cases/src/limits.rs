@@ -1,10 +1,10 @@
 //! Files at each limit of document 01 and one past it.
 
 use crate::draft::{Access, Context, Domain, Draft, Entry, Grant, Item};
-use crate::write;
+use crate::{ends, write};
 
 /// How many limits there are.
-pub const LIMITS: usize = DRAFT_LIMITS + 3;
+pub const LIMITS: usize = DRAFT_LIMITS + 5;
 
 /// How many of them a draft can show; the others are about whole texts.
 pub const DRAFT_LIMITS: usize = 20;
@@ -15,10 +15,12 @@ pub const SUBJECT_DOMAINS: usize = 1;
 pub const NAME: usize = 8;
 
 /// Those about whole texts: its length, that of the filled one, and that of a
-/// text of blank lines.
+/// text of blank lines; and the lengths of both texts where CR LF ends lines.
 pub const LONG_TEXT: usize = DRAFT_LIMITS;
 pub const LONG_FILLED: usize = DRAFT_LIMITS + 1;
 const LONG_BLANK: usize = DRAFT_LIMITS + 2;
+pub const LONG_BY_CRS: usize = DRAFT_LIMITS + 3;
+const LONG_BLANK_CRS: usize = DRAFT_LIMITS + 4;
 
 /// A draft at a limit, or one past it, and the refusal number it then gets.
 pub fn draft(limit: usize, past: bool) -> (Draft, u16) {
@@ -57,6 +59,11 @@ pub fn text(limit: usize, past: bool) -> (Vec<u8>, u16) {
         LONG_TEXT => (long_text(&base(), 65_536 + more), 2 * u16::from(past)),
         LONG_FILLED => (long_filled(65_536 + more), 31 * u16::from(past)),
         LONG_BLANK => (vec![b'\n'; 65_536 + more], if past { 2 } else { 4 }),
+        LONG_BY_CRS => (long_by_crs(65_536 + more), 2 * u16::from(past)),
+        LONG_BLANK_CRS => {
+            let ends = [ends::all(&[b'\n'; 32_768]), vec![b'\n'; more]];
+            (ends.concat(), if past { 2 } else { 4 })
+        }
         limit => {
             let (draft, number) = draft(limit, past);
             (write::text(&write::lines(&draft)), number)
@@ -264,6 +271,14 @@ fn long_text(draft: &Draft, length: usize) -> Vec<u8> {
     text.resize(length - 1, b'c');
     text.push(b'\n');
     text
+}
+
+/// A good text that has this length by its CRs alone.
+fn long_by_crs(length: usize) -> Vec<u8> {
+    let draft = base();
+    // Its comment is one line more.
+    let crs = write::lines(&draft).len() + 1;
+    ends::all(&long_text(&draft, length - crs))
 }
 
 /// A good text whose filled text has this length.

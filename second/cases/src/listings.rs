@@ -1,10 +1,10 @@
 //! The texts that are stored for the list of names, each with how many words
 //! are lent: document 01's example, a file of nothing, lines that are far apart,
-//! the counts of a map, and short texts of every sort.
+//! the counts of a map, line ends of every sort, and short texts of every sort.
 
 use crate::dice::Dice;
 use crate::draft::Draft;
-use crate::{fillings, names, readings, write};
+use crate::{ends, fillings, names, readings, write};
 use second::names::listed;
 use second::EXAMPLE;
 
@@ -68,6 +68,7 @@ pub fn all(seed: u64) -> Vec<Listing> {
     all.push(more(write::text(&write::lines(&Draft::default()))));
     all.extend([APART, names::ELSEWHERE].map(|text| more(text.into())));
     all.extend(counts().into_iter().map(more));
+    all.extend(ends::stored().into_iter().map(more));
     let refused =
         |number: u16| fillings::short_text(&mut Dice::of_case(seed, number.into()), number);
     all.extend(fillings::REFUSALS.map(|number| (refused(number), SOME)));

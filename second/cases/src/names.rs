@@ -1,11 +1,11 @@
 //! Questions for the name of a domain, and those that are stored, each with its
 //! text: document 01's example, a file of nothing, names that stand elsewhere
-//! in the text too, the limits of a map and of a name, and texts that are
-//! refused.
+//! in the text too, the limits of a map and of a name, line ends of every sort,
+//! and texts that are refused.
 
 use crate::dice::Dice;
 use crate::draft::Draft;
-use crate::{fillings, limits, write};
+use crate::{ends, fillings, limits, write};
 use second::lookup::{self, Map};
 use second::{policy_of, Answer, EXAMPLE};
 use std::collections::BTreeSet;
@@ -113,6 +113,8 @@ fn edges() -> Vec<Asked> {
         (limit(limits::NAME, true), OBJECTS, vec![0]),
     ];
     asked.extend(NO_MAPS.map(|map| (EXAMPLE.into(), map, vec![0])));
+    let both = |text: Vec<u8>| [(text.clone(), OBJECTS, vec![0]), (text, SUBJECTS, vec![1])];
+    asked.extend(ends::stored().into_iter().flat_map(both));
     asked
 }
 

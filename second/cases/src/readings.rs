@@ -1,10 +1,10 @@
 //! The texts that are stored for the reader, each with how many words of a
-//! table are lent: all limits that fit into few bytes, and short texts of every
-//! sort.
+//! table are lent: all limits that fit into few bytes, line ends of every sort,
+//! and short texts of every sort.
 
 use crate::dice::Dice;
 use crate::large::short_name;
-use crate::{limits, texts};
+use crate::{ends, limits, texts};
 use second::refusal::{COUNT, SAME_PRINCIPAL, TWICE, UNBOUND, UNKNOWN};
 use second::{policy_of, EXAMPLE, TABLE_WORDS};
 
@@ -23,6 +23,7 @@ pub fn all(seed: u64) -> Vec<Reading> {
     let enough = |text: Vec<u8>| (text, TABLE_WORDS);
     all.extend(small_limits().into_iter().map(enough));
     all.extend(counts().map(|text| enough(text.into_bytes())));
+    all.extend(ends::stored().into_iter().map(enough));
     all.extend((0..SHORT_TEXTS).map(|case| short(case, &mut Dice::of_case(seed, case))));
     all
 }

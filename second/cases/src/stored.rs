@@ -5,7 +5,7 @@
 
 use crate::dice::Dice;
 use crate::events::{self, OwnEvent};
-use crate::{fillings, findings, listings, names, readings, tables, texts};
+use crate::{ends, fillings, findings, listings, names, readings, tables, texts};
 use second::{decode, fill, filler, first_fault, judge, list, overlap, read, Refusal, TABLE_WORDS};
 
 /// The codes of the trials' operations.
@@ -191,16 +191,13 @@ fn overlap_cases() -> Vec<u8> {
 }
 
 fn page_cases() -> Vec<u8> {
-    let count = 260;
+    let short = (2..260).map(|case| short_text(&mut Dice::of_case(SEED + 2, case)));
+    let mut all = vec![Vec::new(), b"\n".to_vec()];
+    all.extend(ends::stored());
+    all.extend(short);
     let mut out = Vec::new();
-    put_u32(&mut out, count);
-    for case in 0..u64::from(count) {
-        let mut dice = Dice::of_case(SEED + 2, case);
-        let text = match case {
-            0 => Vec::new(),
-            1 => b"\n".to_vec(),
-            _ => short_text(&mut dice),
-        };
+    put_u32(&mut out, all.len() as u32);
+    for text in all {
         put_bytes(&mut out, &text);
         put_u64(&mut out, Refusal::answer(first_fault(&text)).packed());
     }

@@ -56,7 +56,7 @@ fn words(policy: &Policy) -> Vec<u16> {
 /// A sound policy: of a file, of no file, or at a limit.
 pub fn policy(dice: &mut Dice) -> Policy {
     match dice.below(100) {
-        0..=39 => match policy_of(&texts::good(dice)) {
+        0..=39 => match policy_of(&texts::good_with_lf(dice)) {
             Ok(policy) => policy,
             Err(_) => direct(dice),
         },

@@ -1,7 +1,7 @@
 //! Texts: good files, damaged ones, files at the limits, and noise.
 
 use crate::dice::Dice;
-use crate::{damage, draft, large, limits, write};
+use crate::{damage, draft, ends, large, limits, write};
 
 /// The texts that every run begins with: those at each limit and one past it,
 /// then the large ones.
@@ -37,9 +37,20 @@ pub fn small_text(dice: &mut Dice) -> Vec<u8> {
 
 /// A text that the reader takes.
 pub fn good(dice: &mut Dice) -> Vec<u8> {
+    let text = good_with_lf(dice);
+    ends::any(dice, text)
+}
+
+/// The same, each line ended by LF: for what is made of its table alone.
+pub fn good_with_lf(dice: &mut Dice) -> Vec<u8> {
     let draft = draft::draft(dice);
     let lines = write::with_skipped(dice, write::lines(&draft));
     write::text(&lines)
+}
+
+/// Lines as a text, ended in any way.
+fn ended(dice: &mut Dice, lines: &[String]) -> Vec<u8> {
+    ends::any(dice, write::text(lines))
 }
 
 /// A text with one fault or several at once.
@@ -57,7 +68,7 @@ pub fn damaged(dice: &mut Dice) -> Vec<u8> {
     for _ in 0..sorts[1] {
         damage::lines(dice, &mut lines);
     }
-    let mut text = write::text(&lines);
+    let mut text = ended(dice, &lines);
     for _ in 0..sorts[2] {
         damage::bytes(dice, &mut text);
     }
@@ -77,7 +88,7 @@ pub fn against_rules(dice: &mut Dice) -> Vec<u8> {
         damage::rule(dice, &mut draft, number);
     }
     let lines = write::with_skipped(dice, write::lines(&draft));
-    write::text(&lines)
+    ended(dice, &lines)
 }
 
 /// A large text with a fault or two in its lines or bytes.
@@ -110,12 +121,12 @@ fn damaged_limit(dice: &mut Dice) -> Vec<u8> {
     for _ in 0..*dice.pick(&[0, 0, 1, 2]) {
         damage::lines(dice, &mut lines);
     }
-    write::text(&lines)
+    ended(dice, &lines)
 }
 
 /// Short texts of few bytes, that no file would have.
 fn noise(dice: &mut Dice) -> Vec<u8> {
-    const PIECES: [&str; 20] = [
+    const PIECES: [&str; 21] = [
         "\n",
         "\n",
         "\n",
@@ -136,6 +147,7 @@ fn noise(dice: &mut Dice) -> Vec<u8> {
         "    execution_context:\n",
         "      uid: U\n",
         "\r\n",
+        "\r",
     ];
     let mut text = String::new();
     for _ in 0..dice.below(9) {

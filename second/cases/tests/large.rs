@@ -30,9 +30,9 @@ fn large_texts_are_answered_as_said() {
 }
 
 #[test]
-fn five_of_them_fill_out_to_too_much() {
+fn six_of_them_fill_out_to_too_much() {
     let is_long = |large: &&Large| filled(&large.text).is_ok_and(|filled| filled.len() > 65_536);
-    assert_eq!(texts().iter().filter(is_long).count(), 5);
+    assert_eq!(texts().iter().filter(is_long).count(), 6);
 }
 
 fn elements(policy: &Policy) -> Vec<Element> {

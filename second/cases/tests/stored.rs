@@ -5,7 +5,7 @@ use cases::events::OwnEvent;
 use cases::findings::{Finding, Search};
 use cases::names::Question;
 use cases::stored::{files, runs, UNTOUCHED};
-use cases::{fillings, readings};
+use cases::{ends, fillings, readings};
 use second::answer::REFUSED;
 use second::{
     fill, filled, filler, first_fault, judge, list, names, overlap, policy_of, read, Answer,
@@ -389,6 +389,14 @@ fn counts_are_met_and_passed() {
     };
     let numbers = readings::counts().map(number);
     assert_eq!(numbers, [0, 6, 6, 0, 6, 0, 6, 0, 6, 6]);
+}
+
+/// Two texts that are taken, and six with a CR that ends no line.
+#[test]
+fn line_ends_are_taken_and_refused() {
+    let number = |text: Vec<u8>| policy_of(&text).err().map_or(0, |refusal| refusal.number);
+    let numbers: Vec<u16> = ends::stored().into_iter().map(number).collect();
+    assert_eq!(numbers, [0, 0, 3, 3, 3, 3, 3, 3]);
 }
 
 #[test]

@@ -318,6 +318,23 @@ fn wrong_numbers_of_names_are_found() {
     }
 }
 
+#[test]
+fn wrong_line_ends_are_found() {
+    let faults = [
+        "a CR is refused wherever it stands",
+        "a CR ends a line",
+        "CRs are left out",
+        "two CRs before LF are one",
+    ];
+    for fault in faults {
+        for function in ["page", "read", "fill", "name", "list"] {
+            // As many cases as the gate runs.
+            let only = format!("--only {function} --count 3000");
+            found(fault, &only, &["text of", "\\r"]);
+        }
+    }
+}
+
 /// These outcomes are among the cases that the gate runs.
 fn has_outcomes(function: &str, refusals: impl Iterator<Item = u16>, others: &[&str]) {
     let line = format!("--only {function} --count 3000");

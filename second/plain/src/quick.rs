@@ -101,6 +101,15 @@ impl Lines for Vec<u8> {
     }
 }
 
+/// The place behind the end of a line, LF or CR and LF, if one stands here.
+fn behind_end(bytes: &[u8], end: usize) -> Option<usize> {
+    match bytes.get(end)? {
+        b'\n' => Some(end + 1),
+        b'\r' if bytes.get(end + 1) == Some(&b'\n') => Some(end + 2),
+        _ => None,
+    }
+}
+
 /// How far the text is read, and what is known by then. Nothing is at fault as
 /// long as every function gives something.
 struct Pass<'t, 'w, L> {
@@ -138,17 +147,17 @@ impl<'t, L: Lines> Pass<'t, '_, L> {
         loop {
             let column = self.left.iter().take_while(|&&byte| byte == b' ').count();
             let end = match self.left.get(column) {
-                Some(b'\n') => column,
                 Some(b'#') => {
                     let bad = |byte: &u8| !(0x20..=0x7E).contains(byte);
-                    match self.left.iter().position(bad) {
-                        Some(end) if self.left[end] == b'\n' => end,
-                        _ => return,
-                    }
+                    self.left.iter().position(bad).unwrap_or(self.left.len())
                 }
+                Some(b'\r' | b'\n') => column,
                 _ => return,
             };
-            self.left = &self.left[end + 1..];
+            match behind_end(self.left, end) {
+                Some(behind) => self.left = &self.left[behind..],
+                None => return,
+            }
         }
     }
 
@@ -167,33 +176,35 @@ impl<'t, L: Lines> Pass<'t, '_, L> {
         self.takes(bytes).then_some(())
     }
 
-    /// Takes these bytes and the line's end, if they are next.
+    /// Takes these bytes and the line's end, if they are next. The end is looked
+    /// for first: mostly it is not there.
     fn ends(&mut self, bytes: &[u8]) -> bool {
-        let end = bytes.len();
-        let ends = self.left.get(end) == Some(&b'\n') && self.left.starts_with(bytes);
-        if ends {
-            self.next_line(end);
+        match behind_end(self.left, bytes.len()) {
+            Some(behind) if self.left.starts_with(bytes) => {
+                self.next_line(behind);
+                true
+            }
+            _ => false,
         }
-        ends
     }
 
     fn end(&mut self, bytes: &[u8]) -> Option<()> {
         self.ends(bytes).then_some(())
     }
 
-    /// Goes on behind an LF.
-    fn next_line(&mut self, end: usize) {
-        self.left = &self.left[end + 1..];
+    /// Goes on behind a line's end.
+    fn next_line(&mut self, behind: usize) {
+        self.left = &self.left[behind..];
         self.skip();
     }
 
-    /// A space and the rest of the line.
+    /// A space and the rest of the line; no scalar takes a CR that is left in it.
     fn scalar(&mut self) -> Option<&'t [u8]> {
         self.take(b" ")?;
-        let end = self.left.iter().position(|&byte| byte == b'\n')?;
-        let value = &self.left[..end];
-        self.next_line(end);
-        Some(value)
+        let lf = self.left.iter().position(|&byte| byte == b'\n')?;
+        let line = &self.left[..lf];
+        self.next_line(lf + 1);
+        Some(line.strip_suffix(b"\r").unwrap_or(line))
     }
 
     /// A space, a list, whose elements are each looked at, and the line's end.

@@ -5,7 +5,8 @@ use crate::refusal::{Refusal, BYTE, LONG_TEXT};
 /// "Text is at most 65,536 bytes."
 pub const TEXT_LIMIT: usize = 65_536;
 
-/// One line of the text without its LF.
+/// One line of the text without its end: "a CR directly before LF now belongs
+/// to the line's end and to no value" (document 02, b).
 #[derive(Clone, Copy, Debug)]
 pub struct Line<'t> {
     /// Numbered from 1, skipped lines counted.
@@ -43,8 +44,10 @@ pub fn lines(text: &[u8]) -> Vec<Line<'_>> {
     let mut all = Vec::new();
     for piece in text.split_inclusive(|&byte| byte == b'\n') {
         number = number.saturating_add(1);
-        let ended = piece.ends_with(b"\n");
-        let bytes = piece.strip_suffix(b"\n").unwrap_or(piece);
+        let (bytes, ended) = match piece {
+            [bytes @ .., b'\r', b'\n'] | [bytes @ .., b'\n'] => (bytes, true),
+            bytes => (bytes, false),
+        };
         all.push(Line {
             number,
             start,
@@ -56,15 +59,19 @@ pub fn lines(text: &[u8]) -> Vec<Line<'_>> {
     all
 }
 
-/// 2, "text over 65,536 bytes", then 3, "byte other than LF and 0x20 to
-/// 0x7E", on the line of the first such byte, in a skipped line too.
+/// 2, "text over 65,536 bytes", CRs counted, then 3, "byte other than LF and
+/// 0x20 to 0x7E", and "a CR anywhere else" than directly before LF, on the line
+/// of the first such byte, in a skipped line too.
 pub fn bytes_fault(text: &[u8]) -> Option<Refusal> {
     if text.len() > TEXT_LIMIT {
         return Some(Refusal::of(LONG_TEXT));
     }
-    let place = text
-        .iter()
-        .position(|&byte| byte != b'\n' && !(0x20..=0x7E).contains(&byte))?;
+    let is_good = |place: usize| match text[place] {
+        b'\n' | 0x20..=0x7E => true,
+        b'\r' => text.get(place + 1) == Some(&b'\n'),
+        _ => false,
+    };
+    let place = (0..text.len()).find(|&place| !is_good(place))?;
     let before = text[..place].iter().filter(|&&byte| byte == b'\n').count();
     // At most 65,536 lines stand before it, so the number fits.
     Some(Refusal::at(BYTE, before as u32 + 1))

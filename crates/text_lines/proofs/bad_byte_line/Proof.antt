@@ -26,6 +26,9 @@ loop-holds c = search needs
 shared-slice-read-b : tie.Need-shared-slice-read-b Inv-loop μ-loop
 shared-slice-read-b c = search needs
 
+byte-behind-requires : tie.Need-byte-behind-requires Inv-loop μ-loop
+byte-behind-requires c κs = search needs
+
 may-stand-requires : tie.Need-may-stand-requires Inv-loop μ-loop
 may-stand-requires c κs = search needs
 
@@ -57,6 +60,7 @@ bad-byte-line-spec =
     returns
     loop-holds
     shared-slice-read-b
+    byte-behind-requires
     may-stand-requires
     returns-2
     line-behind-requires

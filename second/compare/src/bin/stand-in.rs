@@ -251,7 +251,20 @@ fn is_all(table: &[u16], entry: u8) -> bool {
         .all(|&word| word == 0)
 }
 
+/// The text as one would see it who takes the ends of lines otherwise.
+fn seen(fault: &str, text: &[u8]) -> Vec<u8> {
+    let byte = |place: usize| match (fault, text[place]) {
+        ("a CR is refused wherever it stands", b'\r') => Some(0),
+        ("a CR ends a line", b'\r') => Some(b'\n'),
+        ("CRs are left out", b'\r') => None,
+        ("two CRs before LF are one", b'\r') if text[place..].starts_with(b"\r\r\n") => None,
+        (_, byte) => Some(byte),
+    };
+    (0..text.len()).filter_map(byte).collect()
+}
+
 fn paged(fault: &str, text: &[u8]) -> u64 {
+    let text = &seen(fault, text);
     let mut answer = Refusal::answer(first_fault(text));
     match (fault, answer.value) {
         ("every page is fine", _) => answer = Refusal::answer(None),
@@ -263,6 +276,7 @@ fn paged(fault: &str, text: &[u8]) -> u64 {
 }
 
 fn taken(fault: &str, text: &[u8], table: &mut [u16]) -> u64 {
+    let text = &seen(fault, text);
     let first = table.first().copied();
     let mut answer = Refusal::answer(second::read(text, table).err());
     match (fault, answer.value) {
@@ -285,6 +299,7 @@ fn is_filled(text: &[u8]) -> bool {
 }
 
 fn filled_out(fault: &str, text: &[u8], output: &mut [u8]) -> u64 {
+    let text = &seen(fault, text);
     let room = output.len();
     let mut filling = second::fill(text, output);
     match (fault, filling) {
@@ -317,6 +332,7 @@ fn looked_up(fault: &str, slots: &mut Slots, call: &Call) -> u64 {
 }
 
 fn named(fault: &str, text: &[u8], call: &Call) -> u64 {
+    let text = &seen(fault, text);
     let [map, low, high, ..] = call.numbers;
     let domain = (u64::from(high) << 32 | u64::from(low)) as usize;
     let (map, domain) = match (fault, map) {
@@ -352,6 +368,7 @@ fn of_refused(text: &[u8], map: u16, domain: usize) -> Option<Word<'_>> {
 }
 
 fn listed(fault: &str, text: &[u8], list: &mut [u32]) -> u64 {
+    let text = &seen(fault, text);
     let room = list.len();
     let mut listing = names::list(text, list);
     match (fault, listing) {

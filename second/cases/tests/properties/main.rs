@@ -3,6 +3,8 @@
 //! The count is small by default; `CASES=100000` runs more, and `SEED` another
 //! run of cases.
 
+mod line_ends;
+
 use cases::{events, limits, tables, texts, Dice};
 use second::policy::{Context, Element, Entry, Gid, Grant, Policy, Uid};
 use second::*;
@@ -223,7 +225,7 @@ fn any_bytes_and_words_are_answered() {
     each_case(1, |dice| {
         let few = dice.percent(50);
         let byte = |dice: &mut Dice| match few {
-            true => *dice.pick(b"\n\n  -:#a[],|"),
+            true => *dice.pick(b"\n\n\r  -:#a[],|"),
             false => dice.next() as u8,
         };
         let bytes: Vec<u8> = (0..dice.below(80)).map(|_| byte(dice)).collect();
@@ -254,7 +256,10 @@ fn limits_are_met_and_passed() {
             );
         }
     }
-    assert_eq!(limits::text(limits::LONG_TEXT, false).0.len(), 65_536);
+    for limit in [limits::LONG_TEXT, limits::LONG_BY_CRS] {
+        assert_eq!(limits::text(limit, false).0.len(), 65_536);
+        assert_eq!(limits::text(limit, true).0.len(), 65_537);
+    }
     assert_eq!(
         filled(&limits::text(limits::LONG_FILLED, false).0)
             .unwrap()

@@ -1,0 +1,6 @@
+pub mod Lines
+pub mod Pages
+pub mod Places
+pub mod Rules
+pub mod Office
+pub mod Example
