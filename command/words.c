@@ -30,7 +30,7 @@ static const struct words refusals[] = {
     {23, "the operation is not 1 to 4", "operations are read 1, write 2, call 3, return 4."},
     {30, "the output lent is shorter than the filled text", "Lend 65,536 bytes: no filled text is longer."},
     {31, "the filled text has more than 65,536 bytes", "Use fewer items with defaults, or shorter identifiers."},
-    {40, "the witness lent has fewer than 32 words", "Lend 32 words or more."},
+    {40, "the witness lent has fewer than 30 words", "Lend 30 words or more."},
 };
 
 static const struct words violations[] = {

@@ -29,7 +29,7 @@ extern "C" {
 enum {
     DOVETENON_TABLE_WORDS = 16384,  /* of a table, at least */
     DOVETENON_FRAMES = 64,          /* of a stack, at most */
-    DOVETENON_WITNESS_WORDS = 32,   /* of a witness, at least */
+    DOVETENON_WITNESS_WORDS = 30,   /* of a witness, at least */
     DOVETENON_TEXT_BYTES = 65536,   /* of a text, and of a filled one, at most */
     DOVETENON_LIST_WORDS = 9728     /* that the list of a text's names takes, at most */
 };
@@ -53,7 +53,7 @@ enum {
     DOVETENON_OPERATION = 23,         /* operation not 1 to 4 */
     DOVETENON_OUTPUT_TOO_SHORT = 30,  /* output shorter than the filled text */
     DOVETENON_FILLED_TOO_LONG = 31,   /* filled text over 65,536 bytes */
-    DOVETENON_WITNESS_TOO_SHORT = 40  /* witness under 32 words */
+    DOVETENON_WITNESS_TOO_SHORT = 40  /* witness under 30 words */
 };
 
 /* ---- The table */
@@ -150,10 +150,10 @@ static inline uint16_t dovetenon_verdict_entry(uint32_t verdict)
 /* The first pair of entries of a table that claim one moment, the lower entry
    least, then the higher least. Refused with 20, then 40.
 
-   On a clash the witness holds the stack from its base, then zeros to word 32:
+   On a clash the witness holds the stack from its base, then zeros to word 30:
    the shortest stack that both entries match and, among the shortest, the one
-   with the lowest function numbers from the base up. When clear, its first 32
-   words are zero. Words past 32 never change, and on refusal no word does. */
+   with the lowest function numbers from the base up. When clear, its first 30
+   words are zero. Words past 30 never change, and on refusal no word does. */
 uint64_t dovetenon_overlap(const uint16_t *table, size_t table_len,
                            uint16_t *witness, size_t witness_len);
 
@@ -186,7 +186,7 @@ static inline uint8_t dovetenon_report_higher(uint64_t report)
     return (uint8_t)(report >> 40 & 0xFF);
 }
 
-/* .. how many words of the witness are the stack, 1 to 32, .. */
+/* .. how many words of the witness are the stack, 1 to 30, .. */
 static inline uint8_t dovetenon_report_depth(uint64_t report)
 {
     return (uint8_t)(report >> 48 & 0xFF);

@@ -73,7 +73,7 @@ pub demand-2-round-trip : (text out table : List ℕ) (size : ℕ) → fillAnswe
 demand-2-round-trip text out table size filled = same-reading text out size filled table
 
 -- ---- 3. "For any accepted file and enough witness room, the overlap report says clear exactly when no moment (a stack of one or more functions, of any
--- length, a uid, a gid) is matched by two different entries; else it names the first such pair in file order and writes a moment of at most 32
+-- length, a uid, a gid) is matched by two different entries; else it names the first such pair in file order and writes a moment of at most 30
 -- functions that both match."
 
 module _ (text table : List ℕ) (file : List Field) (read : fileOf text ≡ fields file) (room : tableWords ≤ length table)

@@ -1,5 +1,5 @@
 -- Two entries match a moment exactly where `clashStack` finds a stack, and none comes before it.
-use Prim.Native.Nat.{ℕ, suc, _+_, _≤_}
+use Prim.Native.Nat.{ℕ, suc, _≤_}
 use native.Mathlib.Omega.{arith}
 use native.Mathlib.Numerals.{sub-one}
 use mathlib.Core.Path.{_≡_, refl, sym, ap, _∙_}
@@ -12,11 +12,11 @@ use Rattle.paper.specs.Scalars.{Sort, anyone, variable, root, user, sortNumber}
 use Rattle.paper.specs.Policy.{Entry, Policy}
 use Rattle.paper.specs.Match.{Moment, top, topLiesIn, sortFits, matches, entryMatches}
 use Rattle.paper.specs.Overlap.{isUser, witnessUid}
-use Rattle.overlap_cells.specs.Best.{topPasses, Meet, inDomain, bestStack, NotAfter}
+use Rattle.overlap_cells.specs.Best.{mostNeeded, topPasses, Meet, inDomain, bestStack, NotAfter}
 use Rattle.overlap_meeting.proofs.Best.{Some}
 use Rattle.overlap_meeting.proofs.Order.{best-short, best-sound, best-least}
 use Rattle.laws.proofs.Tests.{both-true, both-left, both-right}
-use Rattle.overlap.specs.Clash.{isRoot, apart, mayClash, clashStack}
+use Rattle.overlap.specs.Clash.{isRoot, apart, mayClash, clashStack, MatchedShort}
 
 -- ---- the top frame
 top-next : (x y : ℕ) (s : List ℕ) → top (x ∷ y ∷ s) ≡ top (y ∷ s)
@@ -92,7 +92,7 @@ pub record Matched (p : Policy) (e : Entry) (m : Moment) : Type 0 where
   pub uid : sortFits (e .context .uid) (m .uid) ≡ true
   pub gid : sortFits (e .context .gid) (m .gid) ≡ true
 
-matched : (p : Policy) (e : Entry) (m : Moment) → entryMatches p e m ≡ true → Matched p e m
+pub matched : (p : Policy) (e : Entry) (m : Moment) → entryMatches p e m ≡ true → Matched p e m
 unfolding entryMatches
 matched p e m h = record {
   lies = search both-left depth 5;
@@ -154,10 +154,31 @@ module _ (p : Policy) (a b : Entry) where
       (record { one = f .takes; other = g .takes; top = sym (top-lies p (a .subject) (m .stack)) ∙ f .lies }))
 
   -- ---- short
-  pub clash-short : length stack ≤ length (a .context .pattern) + length (b .context .pattern)
+  abbrev enough : ℕ
+  enough = mostNeeded (length (a .context .pattern)) (length (b .context .pattern))
+
+  pub clash-short : length stack ≤ enough
   unfolding clashStack
   clash-short = go (mayClash a b)
     where
-      go : (t : Bool) → length (cond t (bestStack (p .functions) (a .subject) (a .context .pattern) (b .context .pattern)) []) ≤ length (a .context .pattern) + length (b .context .pattern)
+      go : (t : Bool) → length (cond t (bestStack (p .functions) (a .subject) (a .context .pattern) (b .context .pattern)) []) ≤ enough
       go true = best-short (p .functions) (a .subject) (a .context .pattern) (b .context .pattern)
       go false = omega arith
+
+  -- a moment that both entries match, with the best stack in the place of its own
+  pub short-enough : (m : Moment) → entryMatches p a m ≡ true → entryMatches p b m ≡ true → MatchedShort p a b m
+  short-enough m h k =
+      let f = matched p a m h in
+      let g = matched p b m k in
+      let same = one-domain p (a .subject) (b .subject) (m .stack) (f .lies) (g .lies) in
+      let found = best-least (p .functions) (a .subject) (a .context .pattern) (b .context .pattern) (m .stack)
+      (record { one = f .takes; other = g .takes; top = sym (top-lies p (a .subject) (m .stack)) ∙ f .lies }) in
+      let best = bestStack (p .functions) (a .subject) (a .context .pattern) (b .context .pattern) in
+      let meet = best-sound (p .functions) (a .subject) (a .context .pattern) (b .context .pattern) (found .0) in
+      let lies : topLiesIn p (a .subject) best ≡ true = top-lies p (a .subject) best ∙ meet .top in
+      record {
+        stack = best;
+        short = best-short (p .functions) (a .subject) (a .context .pattern) (b .context .pattern);
+        one = is-matched p a _ (record { lies = lies; takes = meet .one; uid = f .uid; gid = f .gid });
+        other = is-matched p b _ (record { lies = rw (← same) lies; takes = meet .other; uid = g .uid; gid = g .gid });
+      }

@@ -4,4 +4,5 @@ mod Pairs
 pub mod Reporting
 pub mod Agree
 mod Two
+pub mod Longest
 pub mod Trials

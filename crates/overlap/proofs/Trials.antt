@@ -94,7 +94,7 @@ abbrev Claims : List Trial → Type 0
 Claims [] = Unit {0}
 Claims (t ∷ ts) = Claim t × Claims ts
 
--- what is computed: the verdict; or the stack of the two entries, and that it is of at most 32 functions
+-- what is computed: the verdict; or the stack of the two entries, and that it is of at most 30 functions
 data Answer : Type 0 where
   verdict : Verdict → Answer
   stack : List ℕ → Bool → Answer

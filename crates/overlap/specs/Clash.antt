@@ -1,13 +1,16 @@
 -- Where two entries of a table clash.
-use Prim.Native.Nat.{ℕ}
-use mathlib.Core.Bool.{Bool, cond, not, _&&_, _||_}
+use Prim.Native.Nat.{ℕ, _≤_}
+use mathlib.Core.Path.{_≡_}
+use mathlib.Core.Bool.{Bool, true, cond, not, _&&_, _||_}
 use mathlib.Core.List.{List, []}
 use lib.Dec.{eqb}
+use lib.ListN.{length}
 use Rattle.paper.specs.Scalars.{Sort, root, sortNumber}
 use Rattle.paper.specs.Policy.{Entry, Policy}
 use Rattle.paper.specs.Table.{entryIn, functionDomainsIn}
+use Rattle.paper.specs.Match.{Moment, entryMatches}
 use Rattle.paper.specs.Overlap.{isUser, entryOfPolicy}
-use Rattle.overlap_cells.specs.Best.{bestStack}
+use Rattle.overlap_cells.specs.Best.{mostNeeded, bestStack}
 
 -- an entry says `root`
 unfoldable pub isRoot : Sort → Bool
@@ -31,3 +34,10 @@ pairStack p i j = clashStack (p .functions) (entryOfPolicy p i) (entryOfPolicy p
 
 unfoldable pub tableStack : List ℕ → ℕ → ℕ → List ℕ
 tableStack ws i j = clashStack (functionDomainsIn ws) (entryIn ws i) (entryIn ws j)
+
+-- both entries match the moment with another stack, one that is no longer than their patterns need
+pub record MatchedShort (p : Policy) (a b : Entry) (m : Moment) : Type 0 where
+  pub stack : List ℕ
+  pub short : length stack ≤ mostNeeded (length (a .context .pattern)) (length (b .context .pattern))
+  pub one : entryMatches p a (record { stack = stack; uid = m .uid; gid = m .gid }) ≡ true
+  pub other : entryMatches p b (record { stack = stack; uid = m .uid; gid = m .gid }) ≡ true

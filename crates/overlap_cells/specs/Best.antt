@@ -1,5 +1,5 @@
 -- The stacks that two patterns both match with a top frame that passes a test, and the best of them. [] says that there is none.
-use Prim.Native.Nat.{ℕ, _+_, _<_}
+use Prim.Native.Nat.{ℕ, _+_, _-_, _<_, max}
 use mathlib.Core.Path.{_≡_}
 use mathlib.Core.Logic.{_⊎_}
 use mathlib.Core.Bool.{Bool, true, false, _&&_, _||_, cond}
@@ -22,6 +22,11 @@ pub record Meet (test : ℕ → Bool) (P Q : List Element) (stack : List ℕ) : 
   pub one : matches P stack ≡ true
   pub other : matches Q stack ≡ true
   pub top : topPasses test stack ≡ true
+
+-- two patterns of m and n elements never need a longer stack than this (document 02 h): "a frame neither names can go, except perhaps the top,
+-- and a pattern without `all` fixes the length"
+abbrev pub mostNeeded : ℕ → ℕ → ℕ
+mostNeeded m n = max (max m n) (m + n - 2)
 
 -- the better of two stacks by an order
 unfoldable pub better : (List ℕ → List ℕ → Bool) → List ℕ → List ℕ → List ℕ

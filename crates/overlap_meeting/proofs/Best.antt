@@ -1,5 +1,5 @@
 -- `bestBy` is sound, complete, short and least.
-use Prim.Native.Nat.{ℕ, suc, _+_, _≤_}
+use Prim.Native.Nat.{ℕ, zero, suc, _+_, _≤_, suc-le-suc}
 use native.Mathlib.Omega.{arith}
 use mathlib.Core.Logic.{_⊎_, ⊎-elim}
 use mathlib.Core.Path.{_≡_, refl, sym, subst, _∙_}
@@ -10,7 +10,7 @@ use lib.Dec.{eqb}
 use borrow.Author.Tests.{eqb-true, eq-eqb}
 use Rattle.paper.specs.Policy.{Element, all, fn}
 use Rattle.paper.specs.Match.{swallowing, firstEquals, matches}
-use Rattle.laws.proofs.Tests.{both-true, both-of, either-of, either-right}
+use Rattle.laws.proofs.Tests.{le-or-lt, both-true, both-of, either-of, either-right}
 use Rattle.judge_pattern.proofs.Lists.{all-takes, empty-refuses}
 use Rattle.overlap_cells.specs.declared.Firsts.the-variants.{Same, Apart}
 use Rattle.overlap_cells.specs.Best.{topPasses, Meet, better, inFront, firstsOf, bestWith, row, bestBy}
@@ -151,9 +151,10 @@ module _ (order : List ℕ → List ℕ → Bool) where
       sound [] Q = good-none [] Q
       sound (a ∷ P) Q = good-row a P (sound P) Q
 
-    -- ---- short: no more frames than both patterns have elements
+    -- ---- short: of two patterns of m and n elements no more frames than the greatest of m, n and m + n - 2.
+    -- A function in front of what one pattern and the rest of the other need could make one more only where that rest is of at most one element
     module _ (low-short : length low ≤ 1) where
-      front-short : (t : Bool) (a : ℕ) (d : List ℕ) (n : ℕ) → length d ≤ n → length (inFront t a d) ≤ suc n
+      front-short : (t : Bool) (a : ℕ) (d : List ℕ) (n : ℕ) → suc (length d) ≤ n → length (inFront t a d) ≤ n
       unfolding inFront
       front-short true a d n h = omega arith
       front-short false a [] n h = omega arith
@@ -163,35 +164,100 @@ module _ (order : List ℕ → List ℕ → Bool) where
       low-at true = low-short
       low-at false = omega arith
 
-      cell-short : (a b : Element) (last : Bool) (m n : ℕ) (both one other : List ℕ) → length both ≤ m + n → length one ≤ m + suc n → length other ≤ suc m + n →
-          length (bestWith order low (firstsOf test a b last) both one other) ≤ suc m + suc n
+      cell-short : (a b : Element) (last : Bool) (both one other : List ℕ) (k : ℕ) → suc (length both) ≤ k → length one ≤ k → length other ≤ k →
+          ((f : ℕ) → a ≡ fn f → b ≡ all → suc (length one) ≤ k) → ((g : ℕ) → a ≡ all → b ≡ fn g → suc (length other) ≤ k) →
+          length (bestWith order low (firstsOf test a b last) both one other) ≤ k
       unfolding bestWith firstsOf
-      cell-short all all last m n both one other g h k =
-          better-or (λ u. length u ≤ suc m + suc n) (better order one other) (cond last low [])
-          (better-or (λ u. length u ≤ suc m + suc n) one other (omega arith) (omega arith))
-          (omega (arith, low-at last))
-      cell-short all (fn b) last m n both one other g h k =
-          better-or (λ u. length u ≤ suc m + suc n) one (inFront (test b && last) b other) (omega arith)
-          (omega (arith, front-short (test b && last) b other (suc m + n) k))
-      cell-short (fn a) all last m n both one other g h k =
-          better-or (λ u. length u ≤ suc m + suc n) other (inFront (test a && last) a one) (omega arith)
-          (omega (arith, front-short (test a && last) a one (m + suc n) h))
-      cell-short (fn a) (fn b) last m n both one other g h k = same (eqb a b)
+      cell-short all all last both one other k g h i front-one front-other =
+          better-or (λ u. length u ≤ k) (better order one other) (cond last low []) (better-or (λ u. length u ≤ k) one other h i) (omega (arith, low-at last))
+      cell-short all (fn b) last both one other k g h i front-one front-other =
+          better-or (λ u. length u ≤ k) one (inFront (test b && last) b other) h (front-short (test b && last) b other k (front-other b refl refl))
+      cell-short (fn a) all last both one other k g h i front-one front-other =
+          better-or (λ u. length u ≤ k) other (inFront (test a && last) a one) i (front-short (test a && last) a one k (front-one a refl refl))
+      cell-short (fn a) (fn b) last both one other k g h i front-one front-other = same (eqb a b)
         where
-          same : (t : Bool) → length (bestWith order low (cond t (Same a (test a && last)) Apart) both one other) ≤ suc m + suc n
-          same true = omega (arith, front-short (test a && last) a both (m + n) g)
+          same : (t : Bool) → length (bestWith order low (cond t (Same a (test a && last)) Apart) both one other) ≤ k
+          same true = front-short (test a && last) a both k g
           same false = omega arith
 
-      row-short : (a : Element) (P : List Element) → ((Q : List Element) → length (bestBy order test low P Q) ≤ length P + length Q) → (Q : List Element) →
-          length (row order test low a (matches P []) (bestBy order test low P) Q) ≤ suc (length P) + length Q
-      unfolding row
-      row-short a P ih [] = omega arith
-      row-short a P ih (b ∷ Q) = cell-short a b (end P Q) (length P) (length Q) _ _ _ (ih Q) (ih (b ∷ Q)) (row-short a P ih Q)
+      all-no-function : {A : Type 0} (f : ℕ) → all ≡ fn f → A
+      all-no-function f e = let z : _≡_ {A = ℕ} 0 1 = cc in absurd (omega arith)
 
-      pub short : (P Q : List Element) → length (bestBy order test low P Q) ≤ length P + length Q
+      -- a pattern of one element, beside another
+      none-other : (P : List Element) → length (bestBy order test low P []) ≤ 0
+      unfolding bestBy row
+      none-other [] = omega arith
+      none-other (a ∷ P) = omega arith
+
+      other-of-one : (e : Element) (P : List Element) → length (bestBy order test low P (e ∷ [])) ≤ length P
+      unfolding bestBy row
+      other-of-one e [] = omega arith
+      other-of-one e (a ∷ P) =
+          let none = none-other P in
+          let so-far = other-of-one e P in
+          cell-short a e (end P []) _ _ _ (suc (length P)) (omega arith) (omega arith) (omega arith) (λ f h i. omega arith) (λ g h i. omega arith)
+
+      one-next : (e b : Element) (Q : List Element) (k : ℕ) → 1 ≤ k → length (bestBy order test low (e ∷ []) Q) ≤ k → ((g : ℕ) → e ≡ all → b ≡ fn g → suc (length (bestBy order test low (e ∷ []) Q)) ≤ k) →
+          length (bestBy order test low (e ∷ []) (b ∷ Q)) ≤ k
+      unfolding bestBy row
+      one-next e b Q k h i front = cell-short e b (end [] Q) _ _ _ k (omega arith) (omega arith) i (λ f x y. omega arith) front
+
+      one-of-one : (e : Element) (Q : List Element) → length (bestBy order test low (e ∷ []) Q) ≤ length Q
+      unfolding bestBy row
+      one-of-one e [] = omega arith
+      one-of-one e (b ∷ Q) = let so-far = one-of-one e Q in one-next e b Q (suc (length Q)) (omega arith) (omega arith) (λ g x y. omega arith)
+
+      -- at most one element, beside a pattern that begins with `all`
+      other-few : (P Q : List Element) → length Q ≤ 1 → (k : ℕ) → length P ≤ k → length Q ≤ k → length (bestBy order test low (all ∷ P) Q) ≤ k
+      unfolding bestBy row
+      other-few P [] few k h i = omega arith
+      other-few P (e ∷ []) few k h i =
+          let none = none-other P in
+          let so-far = other-of-one e P in
+          cell-short all e (end P []) _ _ _ k (omega arith) (omega arith) (omega arith) (λ f x y. all-no-function f x) (λ g x y. omega arith)
+      other-few P (e ∷ e′ ∷ Q) few k h i = absurd (omega arith)
+
+      one-few : (P Q : List Element) → length P ≤ 1 → (k : ℕ) → length P ≤ k → length Q ≤ k → length (bestBy order test low P (all ∷ Q)) ≤ k
       unfolding bestBy
-      short [] Q = omega arith
-      short (a ∷ P) Q = row-short a P (short P) Q
+      one-few [] Q few k h i = omega arith
+      one-few (e ∷ []) Q few k h i = let so-far = one-of-one e Q in one-next e all Q k h (omega arith) (λ g x y. all-no-function g y)
+      one-few (e ∷ e′ ∷ P) Q few k h i = absurd (omega arith)
+
+      -- u has no more frames than the greatest of m, n and m + n - 2
+      abbrev Few : ℕ → ℕ → List ℕ → Type 0
+      Few m n u = (k : ℕ) → m ≤ k → n ≤ k → m + n ≤ k + 2 → length u ≤ k
+
+      -- one element more, where what is said of the rests is `below` and `before`
+      module _ (a b : Element) (P Q : List Element) (below : (Q : List Element) → Few (length P) (length Q) (bestBy order test low P Q))
+          (before : Few (suc (length P)) (length Q) (bestBy order test low (a ∷ P) Q)) where
+        front-one : (k : ℕ) → length P ≤ k → length Q ≤ k → length P + length Q ≤ k + 1 → b ≡ all → suc (length (bestBy order test low P (b ∷ Q))) ≤ suc k
+        front-one k h i s e =
+            rw e
+            (suc-le-suc
+            (⊎-elim (λ l. below (all ∷ Q) k h l (omega arith)) (λ l. one-few P Q (omega arith) k h i) (le-or-lt (suc (length Q)) k)))
+
+        front-other : (k : ℕ) → length P ≤ k → length Q ≤ k → length P + length Q ≤ k + 1 → a ≡ all → suc (length (bestBy order test low (a ∷ P) Q)) ≤ suc k
+        front-other k h i s e = suc-le-suc (⊎-elim (λ l. before k l i (omega arith)) (λ l. rw e (other-few P Q (omega arith) k h i)) (le-or-lt (suc (length P)) k))
+
+        more-short : Few (suc (length P)) (suc (length Q)) (bestBy order test low (a ∷ P) (b ∷ Q))
+        unfolding row bestBy
+        more-short zero h i s = absurd (omega arith)
+        more-short (suc k) h i s =
+            cell-short a b (end P Q) _ _ _ (suc k) (suc-le-suc (below Q k (omega arith) (omega arith) (omega arith))) (below (b ∷ Q) (suc k) (omega arith) i (omega arith))
+            (before (suc k) h (omega arith) (omega arith))
+            (λ f x y. front-one k (omega arith) (omega arith) (omega arith) y)
+            (λ g x y. front-other k (omega arith) (omega arith) (omega arith) x)
+
+      row-short : (a : Element) (P : List Element) → ((Q : List Element) → Few (length P) (length Q) (bestBy order test low P Q)) → (Q : List Element) →
+          Few (suc (length P)) (length Q) (bestBy order test low (a ∷ P) Q)
+      unfolding row bestBy
+      row-short a P below [] k h i s = omega arith
+      row-short a P below (b ∷ Q) k h i s = more-short a b P Q below (row-short a P below Q) k h i s
+
+      pub short : (P Q : List Element) → Few (length P) (length Q) (bestBy order test low P Q)
+      unfolding bestBy
+      short [] Q k h i s = omega arith
+      short (a ∷ P) Q k h i s = row-short a P (short P) Q k h i s
 
     -- ---- complete: where the patterns meet a stack is found; and least: no other comes before it
     module _ (Le : List ℕ → List ℕ → Type 0)

@@ -1,5 +1,6 @@
 pub mod Best
 pub mod Order
+pub mod Needed
 mod Cells
 mod Ends
 mod Writing

@@ -13,7 +13,7 @@ use borrow.Author.Tests.{eqb-true, eqb-false, eq-eqb, ltb-true, ltb-false, lt-lt
 use Rattle.paper.specs.Policy.{Element, all}
 use Rattle.paper.specs.Match.{matches}
 use Rattle.laws.proofs.Tests.{le-or-lt, both-true, both-of, either-of, neither-left, neither-right}
-use Rattle.overlap_cells.specs.Best.{topPasses, Meet, lowerOrSame, comesFirst, NotAbove, NotAfter, inDomain, alone, lowestIn, bestStack}
+use Rattle.overlap_cells.specs.Best.{mostNeeded, topPasses, Meet, lowerOrSame, comesFirst, NotAbove, NotAfter, inDomain, alone, lowestIn, bestStack}
 use Rattle.overlap_meeting.proofs.Best.{Some, Good, AtMost, sound, short, least, all-keep, all-none}
 
 lower-true : (u v : List ℕ) → lowerOrSame u v ≡ true → NotAbove u v
@@ -45,7 +45,7 @@ above-chain (x ∷ u) (y ∷ v) (z ∷ w) h k =
     (λ l. ⊎-elim (λ m. inl (let e = l .0 in omega arith)) (λ m. inr (l .0 ∙ m .0, above-chain u v w (l .1) (m .1))) k) h
 
 -- ---- of stacks
-after-chain : (u v w : List ℕ) → NotAfter u v → NotAfter v w → NotAfter u w
+pub after-chain : (u v w : List ℕ) → NotAfter u v → NotAfter v w → NotAfter u w
 unfolding NotAfter
 after-chain u v w h k = above-chain (length u ∷ u) (length v ∷ v) (length w ∷ w) h k
 
@@ -57,7 +57,7 @@ after-false : (u v : List ℕ) → comesFirst u v ≡ false → NotAfter v u
 unfolding NotAfter comesFirst
 after-false u v h = lower-false (length u ∷ u) (length v ∷ v) h
 
-after-front : (a : ℕ) (u w : List ℕ) → NotAfter u w → NotAfter (a ∷ u) (a ∷ w)
+pub after-front : (a : ℕ) (u w : List ℕ) → NotAfter u w → NotAfter (a ∷ u) (a ∷ w)
 unfolding NotAfter NotAbove
 after-front a u w h = ⊎-elim (λ l. inl (omega arith)) (λ l. inr (ap suc (l .0), inr (refl, l .1))) h
 
@@ -66,7 +66,7 @@ unfolding NotAfter NotAbove
 after-alone a [] = inr (refl, inr (refl, tt))
 after-alone a (y ∷ w) = inl (omega arith)
 
-after-longer : (x : ℕ) (w : List ℕ) → NotAfter w (x ∷ w)
+pub after-longer : (x : ℕ) (w : List ℕ) → NotAfter w (x ∷ w)
 unfolding NotAfter NotAbove
 after-longer x w = inl (omega arith)
 
@@ -129,9 +129,10 @@ module _ (F : List ℕ) (d : ℕ) (P Q : List Element) where
   abbrev low : List ℕ
   low = alone F (lowestIn F d)
 
-  pub best-short : length (bestStack F d P Q) ≤ length P + length Q
+  -- it needs no more frames than the lengths of the patterns ask for
+  pub best-short : length (bestStack F d P Q) ≤ mostNeeded (length P) (length Q)
   unfolding bestStack
-  best-short = short comesFirst (inDomain F d) low (alone-short F (lowestIn F d)) P Q
+  best-short = short comesFirst (inDomain F d) low (alone-short F (lowestIn F d)) P Q (mostNeeded (length P) (length Q)) (omega arith) (omega arith) (omega arith)
 
   -- both patterns meet in what is found
   pub best-sound : Some (bestStack F d P Q) → Meet (inDomain F d) P Q (bestStack F d P Q)
@@ -144,6 +145,20 @@ module _ (F : List ℕ) (d : ℕ) (P Q : List Element) where
   best-least w c =
       least comesFirst (inDomain F d) low NotAfter after-chain after-true after-false after-front after-alone after-longer
       (low-least F d (lowestIn F d) (lowest-in F d)) P Q w c
+
+-- ---- a stack itself, and the length of one that does not come after another
+above-same : (u : List ℕ) → NotAbove u u
+unfolding NotAbove
+above-same [] = tt
+above-same (x ∷ u) = inr (refl, above-same u)
+
+pub after-same : (u : List ℕ) → NotAfter u u
+unfolding NotAfter
+after-same u = above-same (length u ∷ u)
+
+pub after-length : (u v : List ℕ) → NotAfter u v → length u ≤ length v
+unfolding NotAfter NotAbove
+after-length u v h = ⊎-elim (λ l. omega arith) (λ e. omega (arith, e .0)) h
 
 -- ---- two stacks neither of which comes after the other are one
 above-anti : (u v : List ℕ) → NotAbove u v → NotAbove v u → u ≡ v

@@ -22,7 +22,7 @@ unfolding verdictPacked packed
 verdicts = refl
 
 reports :
-    map reportPacked (Unreported 40 ∷ Clash 0 1 2 0 0 ∷ Clash 126 127 32 1 0 ∷ Clear ∷ []) ≡ 0x10028 ∷ 0x0002010000020000 ∷ 0x01207F7E00020000 ∷ 0x30000 ∷ []
+    map reportPacked (Unreported 40 ∷ Clash 0 1 2 0 0 ∷ Clash 126 127 30 1 0 ∷ Clear ∷ []) ≡ 0x10028 ∷ 0x0002010000020000 ∷ 0x011E7F7E00020000 ∷ 0x30000 ∷ []
 unfolding reportPacked packed clashRest
 reports = refl
 
@@ -33,10 +33,10 @@ unfolding namePacked nameParts packed
 names = refl
 
 parts-again :
-    map unpacked (0xC00010004 ∷ 0x4007F ∷ 0x01207F7E00020000 ∷ 0 ∷ [])
+    map unpacked (0xC00010004 ∷ 0x4007F ∷ 0x011E7F7E00020000 ∷ 0 ∷ [])
     ≡ record { class = 1; value = 4; rest = 12 }
     ∷ record { class = 4; value = 127; rest = 0 }
-    ∷ record { class = 2; value = 0; rest = 0x01207F7E }
+    ∷ record { class = 2; value = 0; rest = 0x011E7F7E }
     ∷ record { class = 0; value = 0; rest = 0 }
     ∷ []
 unfolding unpacked

@@ -16,26 +16,26 @@ use Rattle.paper.specs.Promises.{reportRefusal}
 use Rattle.paper.proofs.Computing.{computing}
 use Rattle.paper.proofs.WorkedPolicy.{context}
 
--- ---- "the report's [order is] 20, 40"; 40: "witness room under 32 words"
+-- ---- "the report's [order is] 20, 40"; 40: "under 30 words" (document 02 h)
 
-ill-formed-first : map (reportRefusal []) ([] ∷ replicate 32 0 ∷ []) ≡ 20 ∷ 20 ∷ []
+ill-formed-first : map (reportRefusal []) ([] ∷ replicate 30 0 ∷ []) ≡ 20 ∷ 20 ∷ []
 unfolding computing
 ill-formed-first = refl
 
-short-witness : (table witness : List ℕ) → wellFormed table ≡ true → ltb (length witness) 32 ≡ true → reportRefusal table witness ≡ 40
+short-witness : (table witness : List ℕ) → wellFormed table ≡ true → ltb (length witness) 30 ≡ true → reportRefusal table witness ≡ 40
 unfolding reportRefusal
 short-witness table witness w h = rw (w, h)
 
-enough-witness : (table witness : List ℕ) → wellFormed table ≡ true → ltb (length witness) 32 ≡ false → reportRefusal table witness ≡ 0
+enough-witness : (table witness : List ℕ) → wellFormed table ≡ true → ltb (length witness) 30 ≡ false → reportRefusal table witness ≡ 0
 unfolding reportRefusal
 enough-witness table witness w h = rw (w, h)
 
 -- ---- the witness, and the uid
 
--- "the witness holds the stack from its base, then zeros to word 32. Words past 32 never change."
+-- "the witness holds the stack from its base, then zeros" to word 30 (document 02 h); words past 30 never change
 witnesses :
-    map (λ (stack : List ℕ). witnessLeft stack (replicate 32 7 ++ (8 ∷ 9 ∷ []))) ([] ∷ (3 ∷ 1 ∷ []) ∷ replicate 32 5 ∷ [])
-    ≡ (replicate 32 0 ++ (8 ∷ 9 ∷ [])) ∷ ((3 ∷ 1 ∷ replicate 30 0) ++ (8 ∷ 9 ∷ [])) ∷ (replicate 32 5 ++ (8 ∷ 9 ∷ [])) ∷ []
+    map (λ (stack : List ℕ). witnessLeft stack (replicate 30 7 ++ (8 ∷ 9 ∷ []))) ([] ∷ (3 ∷ 1 ∷ []) ∷ replicate 30 5 ∷ [])
+    ≡ (replicate 30 0 ++ (8 ∷ 9 ∷ [])) ∷ ((3 ∷ 1 ∷ replicate 28 0) ++ (8 ∷ 9 ∷ [])) ∷ (replicate 30 5 ++ (8 ∷ 9 ∷ [])) ∷ []
 unfolding computing
 witnesses = refl
 
@@ -104,9 +104,9 @@ module _ (old new : List ℕ) where
   not-past-the-last : (depth uid gid : ℕ) → Says two old new (Clash 1 2 depth uid gid) → ⊥
   not-past-the-last depth uid gid said = omega (arith, said .listed)
 
-  -- not a stack over 32, nor one at which they do not match
-  not-over-32 : (uid gid : ℕ) → Says two old new (Clash 0 1 33 uid gid) → ⊥
-  not-over-32 uid gid said = omega (arith, said .short)
+  -- not a stack over 30, nor one at which they do not match
+  not-over-30 : (uid gid : ℕ) → Says two old new (Clash 0 1 31 uid gid) → ⊥
+  not-over-30 uid gid said = omega (arith, said .short)
 
   not-without-a-stack : Says two old new (Clash 0 1 0 1 0) → ⊥
   unfolding computing
@@ -118,6 +118,6 @@ module _ (old new : List ℕ) where
   not-a-later-pair depth uid gid said =
       said .first 0 1 (omega arith) (omega arith) (inr (refl, omega arith)) (record { stack = 0 ∷ []; uid = 1; gid = 0 }) (record { one = refl; other = refl })
 
-  -- words past 32 as they were
+  -- words past 30 as they were
   what-a-clash-leaves : (p : Policy) (lower higher depth uid gid : ℕ) → Says p old new (Clash lower higher depth uid gid) → new ≡ witnessLeft (take depth new) old
   what-a-clash-leaves p lower higher depth uid gid said = said .left

@@ -33,6 +33,6 @@ tableWords = 16384
 abbrev pub mostFrames : ℕ
 mostFrames = 64
 
--- 40: "witness room under 32 words"
+-- 40: "under 30 words" (document 02 h)
 abbrev pub witnessWords : ℕ
-witnessWords = 32
+witnessWords = 30

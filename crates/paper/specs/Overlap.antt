@@ -39,11 +39,11 @@ isUser sort = eqb (sortNumber sort) (sortNumber user)
 unfoldable pub witnessUid : Entry → Entry → ℕ
 witnessUid a b = cond (isUser (a .context .uid) || isUser (b .context .uid)) 1 0
 
--- "the witness holds the stack from its base, then zeros to word 32. Words past 32 never change."
+-- "the witness holds the stack from its base, then zeros" to word 30: "The room needed is now 30 words, and 30 are written" (document 02 h). Words past them never change
 unfoldable pub witnessLeft : List ℕ → List ℕ → List ℕ
 witnessLeft stack old = padded witnessWords stack ++ drop witnessWords old
 
--- "the first such pair in file order" with "a moment of at most 32 functions that both match"
+-- "the first such pair in file order" with a moment "that both match", of at most 30 functions (document 02 h)
 pub record FirstClash (p : Policy) (old new : List ℕ) (lower higher depth uid gid : ℕ) : Type 0 where
   pub ordered : lower < higher
   pub listed : higher < length (p .entries)

@@ -119,7 +119,7 @@ judgeAnswer table operation target m allocation =
 
 -- ---- the overlap report: a table, and the witness before and after. The stack in the witness is not fixed, but for what `Says` says of it
 
--- "the report's [order is] 20, 40"; 40: "witness room under 32 words"
+-- "the report's [order is] 20, 40"; 40: "under 30 words" (document 02 h)
 unfoldable pub reportRefusal : List ℕ → List ℕ → ℕ
 reportRefusal table witness = cond (wellFormed table) (cond (ltb (length witness) witnessWords) 40 0) 20
 

@@ -21,4 +21,4 @@ pub const TABLE_WORDS: usize = 16384;
 
 pub const FRAMES: usize = 64;
 
-pub const WITNESS_WORDS: usize = 32;
+pub const WITNESS_WORDS: usize = 30;

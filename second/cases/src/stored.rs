@@ -175,7 +175,7 @@ fn overlap_cases() -> Vec<u8> {
     for case in 0..u64::from(count) {
         let mut dice = Dice::of_case(SEED + 1, case);
         let table = tables::table(&mut dice);
-        let room = *dice.pick(&[0, 31, 32, 32, 32, 32, 32, 33]);
+        let room = *dice.pick(&[0, 29, 30, 30, 30, 30, 30, 31]);
         let mut witness = vec![0; room];
         let report = overlap(&table, &mut witness);
         let written = match report {

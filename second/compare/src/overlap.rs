@@ -14,7 +14,7 @@ const WITNESS: u32 = 1;
 
 pub fn ask(_: u64, dice: &mut Dice, options: &Options, requests: &mut Requests) -> Check {
     let words = tables::table(dice);
-    let room = *dice.pick(&[0, 1, 31, 32, 32, 32, 32, 32, 33, 33, 40, 100]);
+    let room = *dice.pick(&[0, 1, 29, 30, 30, 30, 30, 30, 31, 31, 40, 100]);
     let before = vec![u16::CANARY; room];
     requests.lend(TABLE, &words);
     requests.lend(WITNESS, &before);

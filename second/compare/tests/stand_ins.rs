@@ -132,7 +132,7 @@ fn wrong_reports_are_found() {
             "witness of",
         ],
     );
-    found("word 32 is changed", only, &["witness: place 32"]);
+    found("word 30 is changed", only, &["witness: place 30"]);
     found(
         "a word past the witness is changed",
         only,

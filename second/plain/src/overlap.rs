@@ -13,7 +13,7 @@ use crate::table::decode;
 use std::collections::{BTreeSet, HashSet};
 
 /// The words of the witness that are written.
-pub const WITNESS_WORDS: usize = 32;
+pub const WITNESS_WORDS: usize = 30;
 
 #[derive(Clone, Copy, Debug, PartialEq, Eq, Hash)]
 pub enum Overlap {
@@ -55,7 +55,7 @@ pub struct Clash {
 }
 
 /// The report on a table: 20, then 40. Refused, it changes nothing; else the
-/// witness holds the stack from its base, then zeros to word 32.
+/// witness holds the stack from its base, then zeros to word 30.
 pub fn overlap(table: &[u16], witness: &mut [u16]) -> Overlap {
     let Some(policy) = decode(table) else {
         return Overlap::Refused(NOT_WELL_FORMED);

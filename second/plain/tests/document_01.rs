@@ -92,8 +92,8 @@ fn report(one: (&str, &str), other: (&str, &str)) -> (Overlap, Vec<u16>) {
     let table = table_of(&two_entries(one, other));
     let mut witness = vec![9; 40];
     let answer = overlap(&table, &mut witness);
-    assert!(witness[32..].iter().all(|&word| word == 9));
-    witness.truncate(32);
+    assert!(witness[30..].iter().all(|&word| word == 9));
+    witness.truncate(30);
     (answer, witness)
 }
 
@@ -111,7 +111,7 @@ fn trials_p8_to_p12() {
     let (answer, witness) = report(("<0>, all", "all"), ("all, <1>", "all"));
     assert_eq!((answer, &witness[..3]), (clash(2, 0), &[0, 1, 0][..]), "P8");
     let (answer, witness) = report(("<0>, <1>", "all"), ("<0>, <2>", "all"));
-    assert_eq!((answer, witness), (Overlap::Clear, vec![0; 32]), "P9");
+    assert_eq!((answer, witness), (Overlap::Clear, vec![0; 30]), "P9");
     let (answer, witness) = report(("<0>, all, <1>", "all"), ("all, <2>, <1>", "all"));
     assert_eq!(
         (answer, &witness[..4]),
@@ -243,13 +243,13 @@ fn filler_numbers_30_and_31_leave_the_output() {
 #[test]
 fn report_numbers_20_and_40_leave_the_witness() {
     let table = table_of(EXAMPLE);
-    let mut witness = vec![8; 31];
+    let mut witness = vec![8; 29];
     assert_eq!(overlap(&table[1..], &mut witness), Overlap::Refused(20));
     assert_eq!(overlap(&table, &mut witness), Overlap::Refused(40));
-    assert_eq!(witness, vec![8; 31]);
-    let mut witness = vec![8; 33];
+    assert_eq!(witness, vec![8; 29]);
+    let mut witness = vec![8; 31];
     assert_eq!(overlap(&table, &mut witness), Overlap::Clear);
-    assert_eq!((&witness[..32], witness[32]), (&[0; 32][..], 8));
+    assert_eq!((&witness[..30], witness[30]), (&[0; 30][..], 8));
 }
 
 #[test]

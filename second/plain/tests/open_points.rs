@@ -510,7 +510,7 @@ fn points_19_and_20_judge_and_report() {
     let entries = vec![entry_of(1, Context::all()), entry_of(1, long)];
     // A subject domain with no functions clashes with nothing.
     let none = encode(&policy(vec![0], 2, entries.clone())).unwrap();
-    let mut witness = [0; 32];
+    let mut witness = [0; 30];
     assert_eq!(overlap(&none, &mut witness), Overlap::Clear);
     // Functions may lie in domains in any order: the top is the lowest of it.
     let any = encode(&policy(vec![2, 0, 1, 0, 1], 3, entries)).unwrap();
@@ -532,6 +532,32 @@ fn points_19_and_20_judge_and_report() {
         allocation_gid: 0,
     };
     assert_eq!(judge(&any, 3, 0, &event), Verdict::Allowed(0));
+}
+
+#[test]
+fn thirty_functions_are_needed_and_enough() {
+    let pattern = |pattern| Context {
+        pattern,
+        ..Context::all()
+    };
+    let functions = |range: std::ops::Range<u16>| range.map(Element::Function);
+    let below = functions(0..15).chain([Element::All]).collect();
+    let above = [Element::All]
+        .into_iter()
+        .chain(functions(15..30))
+        .collect();
+    let entries = vec![entry_of(0, pattern(below)), entry_of(0, pattern(above))];
+    let table = encode(&policy(vec![0; 30], 1, entries)).unwrap();
+    let mut witness = [9; 31];
+    let clash = Overlap::Clash {
+        lower: 0,
+        higher: 1,
+        length: 30,
+        uid: 0,
+    };
+    assert_eq!(overlap(&table, &mut witness), clash);
+    assert!(witness[..30].iter().copied().eq(0..30));
+    assert_eq!(witness[30], 9);
 }
 
 #[test]

@@ -439,7 +439,7 @@ fn clashes_are_real_and_clear_is_clear() {
     let mut mix = Mix::new();
     each_case(1, |dice| {
         let table = tables::table(dice);
-        let mut witness = vec![0x5555; *dice.pick(&[0, 31, 32, 32, 32, 32, 32, 33, 33, 40])];
+        let mut witness = vec![0x5555; *dice.pick(&[0, 29, 30, 30, 30, 30, 30, 31, 31, 40])];
         let before = witness.clone();
         let answer = overlap(&table, &mut witness);
         let policy = decode(&table);
@@ -450,7 +450,7 @@ fn clashes_are_real_and_clear_is_clear() {
             return;
         }
         let policy = policy.unwrap();
-        assert_eq!(witness[32..], before[32..]);
+        assert_eq!(witness[30..], before[30..]);
         note(&mut mix, check_witness(&policy, answer, &witness));
         if policy.functions.len() <= 4 && dice.percent(20) {
             assert_eq!(answer, brute(&policy, &witness), "{policy:?}");
@@ -467,7 +467,7 @@ fn clashes_are_real_and_clear_is_clear() {
     show("overlap", &mix, &needed);
 }
 
-/// A witness is matched by both entries and at most 32 deep, then zeros.
+/// A witness is matched by both entries and at most 30 deep, then zeros.
 fn check_witness(policy: &Policy, answer: Overlap, witness: &[u16]) -> String {
     let Overlap::Clash {
         lower,
@@ -476,12 +476,12 @@ fn check_witness(policy: &Policy, answer: Overlap, witness: &[u16]) -> String {
         uid,
     } = answer
     else {
-        assert!(witness[..32].iter().all(|&word| word == 0));
+        assert!(witness[..30].iter().all(|&word| word == 0));
         return "clear".to_string();
     };
     let stack = &witness[..usize::from(length)];
-    assert!((1..=32).contains(&length));
-    assert!(witness[stack.len()..32].iter().all(|&word| word == 0));
+    assert!((1..=30).contains(&length));
+    assert!(witness[stack.len()..30].iter().all(|&word| word == 0));
     for entry in [lower, higher] {
         assert!(entry_matches(policy, entry, stack, uid), "{policy:?}");
     }
@@ -504,7 +504,7 @@ fn entry_matches(policy: &Policy, entry: u8, stack: &[u16], uid: u8) -> bool {
 fn brute(policy: &Policy, witness: &[u16]) -> Overlap {
     let entries = policy.entries.len() as u8;
     let stacks = stacks(policy.functions.len() as u16, 6);
-    let answer = overlap(&encode(policy).unwrap(), &mut [0; 32]);
+    let answer = overlap(&encode(policy).unwrap(), &mut [0; 30]);
     for lower in 0..entries {
         for higher in lower + 1..entries {
             if let Some((stack, uid)) = brute_pair(policy, lower, higher, &stacks) {
@@ -579,7 +579,7 @@ fn no_table_makes_the_report_slow() {
         entries: (0..128).map(entry).collect(),
     };
     let start = std::time::Instant::now();
-    let answer = overlap(&encode(&policy).unwrap(), &mut [0; 32]);
+    let answer = overlap(&encode(&policy).unwrap(), &mut [0; 30]);
     println!("slow report: {:?}", start.elapsed());
     assert_eq!(answer, Overlap::Clear);
     assert!(start.elapsed().as_secs() < 10);

@@ -217,14 +217,14 @@ fn judged(
 
 fn reported(fault: &str, table: &[u16], witness: &mut [u16]) -> u64 {
     if fault == "every table is clear" {
-        if let Some(words) = witness.get_mut(..32) {
+        if let Some(words) = witness.get_mut(..30) {
             words.fill(0);
         }
         return Overlap::Clear.answer().packed();
     }
     let mut report = second::overlap(table, witness);
     match (fault, &mut report) {
-        ("word 32 is changed", _) if witness.len() > 32 => witness[32] = 0,
+        ("word 30 is changed", _) if witness.len() > 30 => witness[30] = 0,
         ("a witness is unreal", Overlap::Clash { .. }) => witness[0] ^= 1,
         (
             "a witness is longer",
