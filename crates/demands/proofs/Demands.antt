@@ -74,7 +74,7 @@ demand-2-round-trip text out table size filled = same-reading text out size fill
 
 -- ---- 3. "For any accepted file and enough witness room, the overlap report says clear exactly when no moment (a stack of one or more functions, of any
 -- length, a uid, a gid) is matched by two different entries; else it names the first such pair in file order and writes a moment of at most 30
--- functions that both match."
+-- functions that both match." 30 is document 02 h's, for 32; by document 02 k the stack is the shortest, and of these the lowest from the base up
 
 module _ (text table : List ℕ) (file : List Field) (read : fileOf text ≡ fields file) (room : tableWords ≤ length table)
     (old new : List ℕ) (r : Report) (enough : witnessWords ≤ length old) (reported : Reported (readLeaves text table) old new r) where

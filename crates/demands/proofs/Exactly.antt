@@ -23,6 +23,7 @@ use Rattle.paper.specs.Promises.{readAnswer, readLeaves, writtenIn, fillAnswer,
 use Rattle.laws.proofs.Tests.{both-true, both-false}
 use Rattle.laws_table.proofs.Inverse.{words-of-policy}
 use Rattle.laws_file.proofs.Accepted.{refused-exactly}
+use Rattle.overlap.proofs.Agree.{reports-fixed}
 use Rattle.file_lookup.specs.Names.{countOf}
 use Rattle.file_lookup.proofs.Found.{name-none}
 use Rattle.demands.specs.Answered.{TableTooShort, TextRefused, TextRead, Reads, FilledTooLong, OutputTooShort, FillingRefused, TextFilled, Fills}
@@ -140,6 +141,11 @@ reports-exactly table old new r h =
     (n .why))
     (λ (s : ReportMade table old new r). rw (s .formed, le-ltb (length old) witnessWords (s .room)) (s .says))
     h
+
+-- so that two answers of which that is true are one, and leave the same witness
+pub reports-alike : (table old new new′ : List ℕ) (r r′ : Report) → Reports table old new r → Reports table old new′ r′ → (r ≡ r′) × (new ≡ new′)
+reports-alike table old new new′ r r′ one other =
+    reports-fixed table old new new′ r r′ (reports-exactly table old new r one) (reports-exactly table old new′ r′ other)
 
 -- ---- name lookup
 

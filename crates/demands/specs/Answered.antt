@@ -162,7 +162,8 @@ pub record ReportMade (table old new : List ℕ) (answer : Report) : Type 0 wher
 abbrev pub Reports : List ℕ → List ℕ → List ℕ → Report → Type 0
 Reports table old new answer = ReportRefused table old new answer ⊎ ReportMade table old new answer
 
--- it "names the first such pair in file order and writes a moment of at most 30 functions that both match"
+-- it "names the first such pair in file order and writes a moment of at most 30 functions that both match", the shortest, "and among the
+-- shortest the lowest function numbers from the base up" (document 02 k)
 pub record ClashNamed (p : Policy) (old new : List ℕ) (answer : Report) : Type 0 where
   pub lower : ℕ
   pub higher : ℕ

@@ -32,5 +32,5 @@ one-listing text list left left′ r r′ a b = (one-answer (a .0) (b .0), one-a
 -- the report: the answer and every word of the witness
 pub one-report : (table old new new′ : List ℕ) (r r′ : ℕ) → ReportedAs table old new r → ReportedAs table old new′ r′ → (r ≡ r′) × (new ≡ new′)
 one-report table old new new′ r r′ a b =
-    let same = reports-fixed table old new new′ (a .report) (b .report) (a .reported) (b .reported) (a .least) (b .least) in
+    let same = reports-fixed table old new new′ (a .report) (b .report) (a .reported) (b .reported) in
     (a .packs ∙ ap reportPacked (same .0) ∙ sym (b .packs), same .1)

@@ -1,4 +1,4 @@
--- Any two answers that meet the promise agree in everything but the stack; and in the stack too, where no other comes before it.
+-- Any two answers that meet the promise are equal: neither pair comes before the other, and of one pair neither stack.
 use Prim.Native.Nat.{ℕ, zero, suc, _≤_}
 use native.Mathlib.Omega.{arith}
 use native.Mathlib.Nat.{eq-or-lt-of-le}
@@ -6,7 +6,7 @@ use mathlib.Core.Logic.{inl, inr, ⊎-elim}
 use mathlib.Core.Path.{_≡_, refl, sym, ap, _∙_}
 use mathlib.Core.List.{List}
 use lib.ListN.{length, take, drop, length-append, length-take}
-use lib.Seq.{drop-at, length-take-le}
+use lib.Seq.{length-take-le}
 use Rattle.paper.specs.declared.Report.{Report}
 use Rattle.paper.specs.declared.Report.the-variants.{Clear, Clash, Unreported}
 use Rattle.paper.specs.Limits.{witnessWords}
@@ -17,17 +17,11 @@ use Rattle.paper.specs.Promises.{reportRefusal, ReportedUnless, Reported}
 use Rattle.laws.proofs.Tests.{le-or-lt}
 use Rattle.laws.proofs.Stretches.{length-padded}
 use Rattle.overlap_meeting.proofs.Order.{after-anti}
-use Rattle.overlap.specs.Told.{Least}
-use Rattle.overlap.specs.Agree.{AgreeButStack}
 
 module _ (p : Policy) (old : List ℕ) where
   module _ (new : List ℕ) (i j depth uid gid : ℕ) (c : FirstClash p old new i j depth uid gid) where
     few-frames : length (take depth new) ≤ witnessWords
     few-frames = let s = c .short in rw length-take (omega arith)
-
-    past-kept : drop witnessWords new ≡ drop witnessWords old
-    unfolding witnessLeft
-    past-kept = ap (drop witnessWords) (c .left) ∙ drop-at (padded witnessWords (take depth new)) (drop witnessWords old) witnessWords (length-padded witnessWords (take depth new) few-frames)
 
     counted : length (take depth new) ≡ depth
     unfolding witnessLeft
@@ -59,59 +53,37 @@ module _ (p : Policy) (old : List ℕ) where
     same-uid : uid ≡ uid′
     same-uid = c .uidIs ∙ (rw (same-lower, same-higher) (sym (c′ .uidIs)))
 
-    clashes-agree : (i ≡ i′) × (j ≡ j′) × (uid ≡ uid′) × (gid ≡ gid′) × (drop witnessWords new ≡ drop witnessWords new′)
-    clashes-agree = (same-lower, same-higher, same-uid, c .gidIs ∙ sym (c′ .gidIs), past-kept new i j depth uid gid c ∙ sym (past-kept new′ i′ j′ depth′ uid′ gid′ c′))
+    same-stack : take depth new ≡ take depth′ new′
+    same-stack =
+        after-anti (take depth new) (take depth′ new′)
+        (c .least (record { stack = take depth′ new′; uid = uid′; gid = gid′ }) (rw (same-lower, same-higher) (c′ .both)))
+        (c′ .least (record { stack = take depth new; uid = uid; gid = gid }) (rw (← same-lower, ← same-higher) (c .both)))
 
-    module _ (least : Least p new (Clash i j depth uid gid)) (least′ : Least p new′ (Clash i′ j′ depth′ uid′ gid′)) where
-      same-stack : take depth new ≡ take depth′ new′
-      same-stack =
-          after-anti (take depth new) (take depth′ new′)
-          (least (record { stack = take depth′ new′; uid = uid′; gid = gid′ }) (rw (same-lower, same-higher) (c′ .both)))
-          (least′ (record { stack = take depth new; uid = uid; gid = gid }) (rw (← same-lower, ← same-higher) (c .both)))
+    same-depth : depth ≡ depth′
+    same-depth = sym (counted new i j depth uid gid c) ∙ (ap length same-stack ∙ counted new′ i′ j′ depth′ uid′ gid′ c′)
 
-      same-depth : depth ≡ depth′
-      same-depth = sym (counted new i j depth uid gid c) ∙ (ap length same-stack ∙ counted new′ i′ j′ depth′ uid′ gid′ c′)
+    same-clash : (Clash i j depth uid gid ≡ Clash i′ j′ depth′ uid′ gid′) × (new ≡ new′)
+    same-clash =
+        let e = same-lower in
+        let f = same-higher in
+        let g = same-depth in
+        let u = same-uid in
+        let v : gid ≡ gid′ = c .gidIs ∙ sym (c′ .gidIs) in
+        (cc, c .left ∙ (ap (λ (s : List ℕ). witnessLeft s old) same-stack ∙ sym (c′ .left)))
 
-      same-clash : (Clash i j depth uid gid ≡ Clash i′ j′ depth′ uid′ gid′) × (new ≡ new′)
-      same-clash =
-          let e = same-lower in
-          let f = same-higher in
-          let g = same-depth in
-          let u = same-uid in
-          let v : gid ≡ gid′ = c .gidIs ∙ sym (c′ .gidIs) in
-          (cc, c .left ∙ (ap (λ (s : List ℕ). witnessLeft s old) same-stack ∙ sym (c′ .left)))
+  says-fixed : (new new′ : List ℕ) (r r′ : Report) → Says p old new r → Says p old new′ r′ → (r ≡ r′) × (new ≡ new′)
+  says-fixed new new′ Clear Clear a b = (refl, a .0 ∙ sym (b .0))
+  says-fixed new new′ Clear (Clash i j depth uid gid) a b = absurd (a .1 i j (b .ordered) (b .listed) _ (b .both))
+  says-fixed new new′ Clear (Unreported number) a b = absurd b
+  says-fixed new new′ (Clash i j depth uid gid) Clear a b = absurd (b .1 i j (a .ordered) (a .listed) _ (a .both))
+  says-fixed new new′ (Clash i j depth uid gid) (Clash i′ j′ depth′ uid′ gid′) a b = same-clash new new′ i j depth uid gid i′ j′ depth′ uid′ gid′ a b
+  says-fixed new new′ (Clash i j depth uid gid) (Unreported number) a b = absurd b
+  says-fixed new new′ (Unreported number) r′ a b = absurd a
 
-  says-agree : (new new′ : List ℕ) (r r′ : Report) → Says p old new r → Says p old new′ r′ → AgreeButStack r new r′ new′
-  says-agree new new′ Clear Clear a b = a .0 ∙ sym (b .0)
-  says-agree new new′ Clear (Clash i j depth uid gid) a b = a .1 i j (b .ordered) (b .listed) _ (b .both)
-  says-agree new new′ Clear (Unreported number) a b = b
-  says-agree new new′ (Clash i j depth uid gid) Clear a b = b .1 i j (a .ordered) (a .listed) _ (a .both)
-  says-agree new new′ (Clash i j depth uid gid) (Clash i′ j′ depth′ uid′ gid′) a b = clashes-agree new new′ i j depth uid gid i′ j′ depth′ uid′ gid′ a b
-  says-agree new new′ (Clash i j depth uid gid) (Unreported number) a b = b
-  says-agree new new′ (Unreported number) r′ a b = absurd a
-
-  says-fixed : (new new′ : List ℕ) (r r′ : Report) → Says p old new r → Least p new r → Says p old new′ r′ → Least p new′ r′ → (r ≡ r′) × (new ≡ new′)
-  says-fixed new new′ Clear Clear a l b m = (refl, a .0 ∙ sym (b .0))
-  says-fixed new new′ Clear (Clash i j depth uid gid) a l b m = absurd (a .1 i j (b .ordered) (b .listed) _ (b .both))
-  says-fixed new new′ Clear (Unreported number) a l b m = absurd b
-  says-fixed new new′ (Clash i j depth uid gid) Clear a l b m = absurd (b .1 i j (a .ordered) (a .listed) _ (a .both))
-  says-fixed new new′ (Clash i j depth uid gid) (Clash i′ j′ depth′ uid′ gid′) a l b m = same-clash new new′ i j depth uid gid i′ j′ depth′ uid′ gid′ a b l m
-  says-fixed new new′ (Clash i j depth uid gid) (Unreported number) a l b m = absurd b
-  says-fixed new new′ (Unreported number) r′ a l b m = absurd a
-
-module _ (table old new new′ : List ℕ) (r r′ : Report) (one : Reported table old new r) (other : Reported table old new′ r′) where
-  pub reports-agree : AgreeButStack r new r′ new′
-  unfolding Reported
-  reports-agree = go (reportRefusal table old) one other
-    where
-      go : (n : ℕ) → ReportedUnless n (policyIn table) old new r → ReportedUnless n (policyIn table) old new′ r′ → AgreeButStack r new r′ new′
-      go zero a b = says-agree (policyIn table) old new new′ r r′ a b
-      go (suc n) a b = rw (a .0, b .0) (refl, a .1 ∙ sym (b .1))
-
-  pub reports-fixed : Least (policyIn table) new r → Least (policyIn table) new′ r′ → (r ≡ r′) × (new ≡ new′)
-  unfolding Reported
-  reports-fixed l m = go (reportRefusal table old) one other
-    where
-      go : (n : ℕ) → ReportedUnless n (policyIn table) old new r → ReportedUnless n (policyIn table) old new′ r′ → (r ≡ r′) × (new ≡ new′)
-      go zero a b = says-fixed (policyIn table) old new new′ r r′ a l b m
-      go (suc n) a b = (a .0 ∙ sym (b .0), a .1 ∙ sym (b .1))
+pub reports-fixed : (table old new new′ : List ℕ) (r r′ : Report) → Reported table old new r → Reported table old new′ r′ → (r ≡ r′) × (new ≡ new′)
+unfolding Reported
+reports-fixed table old new new′ r r′ one other = go (reportRefusal table old) one other
+  where
+    go : (n : ℕ) → ReportedUnless n (policyIn table) old new r → ReportedUnless n (policyIn table) old new′ r′ → (r ≡ r′) × (new ≡ new′)
+    go zero a b = says-fixed (policyIn table) old new new′ r r′ a b
+    go (suc n) a b = (a .0 ∙ sym (b .0), a .1 ∙ sym (b .1))

@@ -11,8 +11,8 @@ use borrow.Author.Tests.{eqb-true, eq-eqb, not-true}
 use Rattle.paper.specs.Scalars.{Sort, anyone, variable, root, user, sortNumber}
 use Rattle.paper.specs.Policy.{Entry, Policy}
 use Rattle.paper.specs.Match.{Moment, top, topLiesIn, sortFits, matches, entryMatches}
-use Rattle.paper.specs.Overlap.{isUser, witnessUid}
-use Rattle.overlap_cells.specs.Best.{mostNeeded, topPasses, Meet, inDomain, bestStack, NotAfter}
+use Rattle.paper.specs.Overlap.{isUser, witnessUid, NotAfter}
+use Rattle.overlap_cells.specs.Best.{mostNeeded, topPasses, Meet, inDomain, bestStack}
 use Rattle.overlap_meeting.proofs.Best.{Some}
 use Rattle.overlap_meeting.proofs.Order.{best-short, best-sound, best-least}
 use Rattle.laws.proofs.Tests.{both-true, both-left, both-right}

@@ -9,9 +9,8 @@ use Rattle.paper.specs.declared.Report.the-variants.{Clash}
 use Rattle.paper.specs.Scalars.{anyone}
 use Rattle.paper.specs.Policy.{Element, all, fn, every, Entry, Policy}
 use Rattle.paper.specs.Match.{Moment}
-use Rattle.paper.specs.Overlap.{BothMatch, PairBefore, Says, entryOfPolicy, witnessLeft}
+use Rattle.paper.specs.Overlap.{BothMatch, PairBefore, NotAfter, Says, entryOfPolicy, witnessLeft}
 use Rattle.paper.proofs.Computing.{computing}
-use Rattle.overlap_cells.specs.Best.{NotAfter}
 use Rattle.overlap_meeting.proofs.Order.{after-length}
 use Rattle.overlap_meeting.proofs.Needed.{needed}
 use Rattle.overlap.proofs.Clash.{matched}
@@ -60,6 +59,7 @@ thirty-clash old =
       listed = omega arith;
       first = λ i j below listed before m both. none-before i j below before;
       both = record { one = refl; other = refl };
+      least = thirty-first;
       short = omega arith;
       left = refl;
       uidIs = refl;

@@ -14,12 +14,11 @@ use Rattle.paper.specs.Limits.{witnessWords}
 use Rattle.paper.specs.Policy.{Policy}
 use Rattle.paper.specs.Table.{padded, entryIn, policyIn, entryCount, wellFormed}
 use Rattle.paper.specs.Match.{Moment}
-use Rattle.paper.specs.Overlap.{BothMatch, NeverBoth, FirstClash, Says, entryOfPolicy, witnessUid, witnessLeft}
+use Rattle.paper.specs.Overlap.{BothMatch, NeverBoth, NotAfter, FirstClash, Says, entryOfPolicy, witnessUid, witnessLeft}
 use Rattle.paper.specs.Promises.{reportRefusal, Reported}
-use Rattle.overlap_cells.specs.Best.{NotAfter}
 use Rattle.overlap_meeting.proofs.Best.{Some}
 use Rattle.overlap.specs.Clash.{pairStack, tableStack}
-use Rattle.overlap.specs.Told.{Ready, NoneBefore, Clashing, FirstOfAll, Least}
+use Rattle.overlap.specs.Told.{Ready, NoneBefore, Clashing, FirstOfAll}
 use Rattle.overlap.proofs.Clash.{clash-sound, clash-least}
 use Rattle.overlap.proofs.Words.{few-entries, entry-read, entries-counted, gid-free, pair-read, stack-short}
 
@@ -30,7 +29,7 @@ no-stack-no-clash p i j e m both =
     let s = clash-least p (entryOfPolicy p i) (entryOfPolicy p j) m (both .one) (both .other) .0 in
     rw e at s
 
-none-before : (p : Policy) (i j : ℕ) (m : Moment) → BothMatch p i j m → NotAfter (pairStack p i j) (m .stack)
+pub none-before : (p : Policy) (i j : ℕ) (m : Moment) → BothMatch p i j m → NotAfter (pairStack p i j) (m .stack)
 unfolding pairStack
 none-before p i j m both = clash-least p (entryOfPolicy p i) (entryOfPolicy p j) m (both .one) (both .other) .1
 
@@ -60,6 +59,9 @@ module _ (ws : List ℕ) (good : wellFormed ws ≡ true) where
         let s = clash-sound (policyIn ws) (entryIn ws i) (entryIn ws j) (gid-free ws good i lower-listed) (gid-free ws good j (c .listed)) some in
         record { one = rw (entry-read ws good i lower-listed) (s .0); other = rw (entry-read ws good j (c .listed)) (s .1) }
 
+    least : (m : Moment) → BothMatch (policyIn ws) i j m → NotAfter (take depth new) (m .stack)
+    least m both = rw (stack-held, ← (pair-read ws good i j lower-listed (c .listed))) (none-before (policyIn ws) i j m both)
+
     first-clash : FirstClash (policyIn ws) old new i j depth (witnessUid (entryIn ws i) (entryIn ws j)) 0
     unfolding NoneBefore
     first-clash = record {
@@ -67,25 +69,18 @@ module _ (ws : List ℕ) (good : wellFormed ws ≡ true) where
       listed = rw (entries-counted ws) (c .listed);
       first = λ x y h k b. let l : y < entryCount ws = rw (entries-counted ws) at k in never-both x y h l (c .first x y h l b);
       both = rw stack-held both-match;
+      least = least;
       short = let s = stack-short ws good i j lower-listed (c .listed) in let e = c .written .counted in omega arith;
       left = rw stack-held (c .written .left);
       uidIs = rw (entry-read ws good i lower-listed, entry-read ws good j (c .listed));
       gidIs = refl;
     }
 
-    least : (m : Moment) → BothMatch (policyIn ws) i j m → NotAfter (take depth new) (m .stack)
-    least m both = rw (stack-held, ← (pair-read ws good i j lower-listed (c .listed))) (none-before (policyIn ws) i j m both)
-
   pair-says : (old new : List ℕ) (r : Report) → FirstOfAll ws old new r → Says (policyIn ws) old new r
   unfolding NoneBefore
   pair-says old new Clear t = (t .1, λ i j h k. let l : j < entryCount ws = rw (entries-counted ws) at k in never-both i j h l (t .0 i j h l (inl (omega arith))))
   pair-says old new (Clash i j depth uid gid) t = rw (t .1, t .2) (first-clash old new i j depth (t .0))
   pair-says old new (Unreported number) t = t
-
-  pair-least : (old new : List ℕ) (r : Report) → FirstOfAll ws old new r → Least (policyIn ws) new r
-  pair-least old new Clear t = tt
-  pair-least old new (Clash i j depth uid gid) t = least old new i j depth (t .0)
-  pair-least old new (Unreported number) t = tt
 
 -- ---- the promise
 module _ (ws : List ℕ) (t : Bool) (tested : t ≡ wellFormed ws) where
@@ -109,6 +104,3 @@ module _ (ws : List ℕ) (t : Bool) (tested : t ≡ wellFormed ws) where
         pub reported : Reported ws old new r
         unfolding Reported reportRefusal
         reported = rw (good, le-ltb (length old) witnessWords room) (pair-says ws good old new r found)
-
-        pub reported-least : Least (policyIn ws) new r
-        reported-least = pair-least ws good old new r found

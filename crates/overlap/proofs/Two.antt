@@ -13,7 +13,7 @@ use Rattle.paper.specs.Match.{sortFits}
 use Rattle.paper.specs.Overlap.{BothMatch, NeverBoth, Says, entryOfPolicy, witnessUid, witnessLeft}
 use Rattle.overlap.specs.Clash.{pairStack}
 use Rattle.overlap.proofs.Clash.{clash-sound}
-use Rattle.overlap.proofs.Reporting.{no-stack-no-clash, take-left}
+use Rattle.overlap.proofs.Reporting.{no-stack-no-clash, none-before, take-left}
 
 module _ (p : Policy) (two : length (p .entries) ≡ 2) (old : List ℕ) where
   -- the only pair
@@ -43,6 +43,7 @@ module _ (p : Policy) (two : length (p .entries) ≡ 2) (old : List ℕ) where
       listed = omega arith;
       first = λ i j h k b. absurd (nothing-before i j h b);
       both = rw held both-match;
+      least = λ m both. rw (held, ← found) (none-before p 0 1 m both);
       short = short;
       left = rw held;
       uidIs = refl;

@@ -1,3 +1,2 @@
 pub mod Clash
 pub mod Told
-pub mod Agree

@@ -1,17 +1,14 @@
--- What the loops over the pairs of a table say, and that the stack of the report is the least.
+-- What the loops over the pairs of a table say.
 use Prim.Native.Nat.{ℕ, _<_, _≤_}
 use mathlib.Core.Path.{_≡_}
 use mathlib.Core.Bool.{true}
 use mathlib.Core.List.{List, []}
-use lib.ListN.{length, take, drop}
+use lib.ListN.{length, drop}
 use Rattle.paper.specs.declared.Report.{Report}
 use Rattle.paper.specs.declared.Report.the-variants.{Clear, Clash, Unreported}
 use Rattle.paper.specs.Limits.{mostEntries, witnessWords}
-use Rattle.paper.specs.Policy.{Policy}
 use Rattle.paper.specs.Table.{entryCount, entryIn, wellFormed}
-use Rattle.paper.specs.Match.{Moment}
-use Rattle.paper.specs.Overlap.{BothMatch, PairBefore, witnessUid, witnessLeft}
-use Rattle.overlap_cells.specs.Best.{NotAfter}
+use Rattle.paper.specs.Overlap.{PairBefore, witnessUid, witnessLeft}
 use Rattle.overlap_meeting.specs.Written.{Written}
 use Rattle.overlap.specs.declared.Found.{Found}
 use Rattle.overlap.specs.declared.Found.the-variants.{Nothing, At}
@@ -49,9 +46,3 @@ abbrev pub FirstOfAll : List ℕ → List ℕ → List ℕ → Report → Type 0
 FirstOfAll ws old new Clear = NoneBefore ws (entryCount ws) 0 × (new ≡ witnessLeft [] old)
 FirstOfAll ws old new (Clash i j depth uid gid) = Clashing ws old new i j depth × (uid ≡ witnessUid (entryIn ws i) (entryIn ws j)) × (gid ≡ 0)
 FirstOfAll ws old new (Unreported number) = ⊥
-
--- no stack that both entries of the reported pair match comes before the one in the witness: it is the shortest, and of these the lowest from the base up
-abbrev pub Least : Policy → List ℕ → Report → Type 0
-Least p new Clear = Unit {0}
-Least p new (Clash i j depth uid gid) = (m : Moment) → BothMatch p i j m → NotAfter (take depth new) (m .stack)
-Least p new (Unreported number) = Unit {0}

@@ -6,13 +6,13 @@ use table::layout;
 ghost use mathlib.Core.Path.{_≡_};
 ghost use Prim.Native.Nat.{_+_, _<_, _≤_};
 ghost use Rattle.paper.specs.Limits.{mostEntries, witnessWords};
-ghost use Rattle.paper.specs.Table.{subjectAt, uidAt, entryAt, word, sortIn, entryCount, entryIn, patternWordsIn, policyIn};
+ghost use Rattle.paper.specs.Table.{subjectAt, uidAt, entryAt, word, sortIn, entryCount, entryIn, patternWordsIn};
 ghost use Rattle.paper.specs.Overlap.{witnessUid};
 ghost use Rattle.paper.specs.Promises.{Reported};
 ghost use Rattle.paper.specs.declared.Report.the-variants.{Clash};
 ghost use Rattle.overlap_meeting.specs.Written.{Written};
 ghost use Rattle.overlap.specs.Clash.{apart, mayClash, tableStack};
-ghost use Rattle.overlap.specs.Told.{Ready, NoneBefore, FirstAfter, FirstOfAll, Least};
+ghost use Rattle.overlap.specs.Told.{Ready, NoneBefore, FirstAfter, FirstOfAll};
 
 enum Found {
     Nothing,
@@ -152,7 +152,6 @@ fn first_clash(t: &[u16], witness: &mut [u16]) -> Report
 // The overlap report of any words.
 pub fn overlap(table: &[u16], witness: &mut [u16]) -> Report
     ensures { λ r. ⌜ Reported (now (table .entry)) (now (witness .entry)) (now (witness .exit)) r ⌝ }
-    ensures { λ r. ⌜ Least (policyIn (now (table .entry))) (now (witness .exit)) r ⌝ }
 {
     if !table_test::well_formed(table) {
         return Report::Unreported {

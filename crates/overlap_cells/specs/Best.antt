@@ -1,7 +1,6 @@
 -- The stacks that two patterns both match with a top frame that passes a test, and the best of them. [] says that there is none.
-use Prim.Native.Nat.{ℕ, _+_, _-_, _<_, max}
+use Prim.Native.Nat.{ℕ, _+_, _-_, max}
 use mathlib.Core.Path.{_≡_}
-use mathlib.Core.Logic.{_⊎_}
 use mathlib.Core.Bool.{Bool, true, false, _&&_, _||_, cond}
 use mathlib.Core.List.{List, [], _∷_}
 use lib.Dec.{eqb, ltb}
@@ -67,7 +66,7 @@ unfoldable pub bestBy : (List ℕ → List ℕ → Bool) → (ℕ → Bool) → 
 bestBy order test low [] Q = []
 bestBy order test low (a ∷ P) Q = row order test low a (matches P []) (bestBy order test low P) Q
 
--- ---- the order: fewer frames first, then the lowest from the base up
+-- ---- the order of the report (`NotAfter`), as a test: fewer frames first, then the lowest from the base up
 unfoldable pub lowerOrSame : List ℕ → List ℕ → Bool
 lowerOrSame [] v = true
 lowerOrSame (x ∷ u) [] = false
@@ -75,15 +74,6 @@ lowerOrSame (x ∷ u) (y ∷ v) = ltb x y || (eqb x y && lowerOrSame u v)
 
 unfoldable pub comesFirst : List ℕ → List ℕ → Bool
 comesFirst u v = lowerOrSame (length u ∷ u) (length v ∷ v)
-
--- the same as propositions
-unfoldable pub NotAbove : List ℕ → List ℕ → Type 0
-NotAbove [] v = Unit {0}
-NotAbove (x ∷ u) [] = ⊥
-NotAbove (x ∷ u) (y ∷ v) = (x < y) ⊎ ((x ≡ y) × NotAbove u v)
-
-unfoldable pub NotAfter : List ℕ → List ℕ → Type 0
-NotAfter u v = NotAbove (length u ∷ u) (length v ∷ v)
 
 -- ---- the test: the function lies in the domain
 unfoldable pub inDomain : List ℕ → ℕ → ℕ → Bool

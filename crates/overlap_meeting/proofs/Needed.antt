@@ -8,9 +8,9 @@ use lib.Dec.{eqb}
 use borrow.Author.Tests.{eqb-false}
 use Rattle.paper.specs.Policy.{all, fn}
 use Rattle.paper.specs.Match.{firstEquals, matches}
+use Rattle.paper.specs.Overlap.{NotAfter}
 use Rattle.laws.proofs.Tests.{neither-left, neither-right}
 use Rattle.judge_pattern.proofs.Lists.{empty-refuses}
-use Rattle.overlap_cells.specs.Best.{NotAfter}
 use Rattle.overlap_meeting.proofs.Best.{fn-split, all-split, all-none}
 use Rattle.overlap_meeting.proofs.Order.{after-chain, after-front, after-longer, after-same}
 

@@ -12,8 +12,9 @@ use lib.Dec.{eqb, ltb}
 use borrow.Author.Tests.{eqb-true, eqb-false, eq-eqb, ltb-true, ltb-false, lt-ltb}
 use Rattle.paper.specs.Policy.{Element, all}
 use Rattle.paper.specs.Match.{matches}
+use Rattle.paper.specs.Overlap.{NotAbove, NotAfter}
 use Rattle.laws.proofs.Tests.{le-or-lt, both-true, both-of, either-of, neither-left, neither-right}
-use Rattle.overlap_cells.specs.Best.{mostNeeded, topPasses, Meet, lowerOrSame, comesFirst, NotAbove, NotAfter, inDomain, alone, lowestIn, bestStack}
+use Rattle.overlap_cells.specs.Best.{mostNeeded, topPasses, Meet, lowerOrSame, comesFirst, inDomain, alone, lowestIn, bestStack}
 use Rattle.overlap_meeting.proofs.Best.{Some, Good, AtMost, sound, short, least, all-keep, all-none}
 
 lower-true : (u v : List ℕ) → lowerOrSame u v ≡ true → NotAbove u v

@@ -18,7 +18,7 @@ use Rattle.paper.specs.Table.{descriptorFits, entriesFit, descriptorsFit
 use Rattle.paper.specs.Match.{swallowing, firstEquals, matches, topLiesIn, sortFits, entryMatches, allocatedSortFits, fitsAllocated, isAll, isAnyone, fitsStatic}
 use Rattle.paper.specs.Match.{contextFitsObject, grants, descriptorGrants, someDescriptorGrants}
 use Rattle.paper.specs.Verdict.{isCode, targetsOf, targetNumber, targetListed, targetDomain, insideOneDomain, entryGrants, byEntries, verdictOf}
-use Rattle.paper.specs.Overlap.{entryOfPolicy, isUser, witnessUid, witnessLeft}
+use Rattle.paper.specs.Overlap.{entryOfPolicy, isUser, witnessUid, witnessLeft, NotAbove, NotAfter}
 use Rattle.paper.specs.Filled.{keyLine, bareLine, writtenLine, valueLine, contextText, itemText, accessText, entryText, filledText}
 use Rattle.paper.specs.Lookup.{front, stretchOf, nameAmong}
 use Rattle.paper.specs.Promises.{textPage, fileOf, readAnswer, readLeaves, writtenIn, fillAnswer, fillLeaves, accessFor, judgeEvent, judgeAnswer}
@@ -38,7 +38,7 @@ unfolding flatMap allOf anyOf upTo countUp same isFrontOf isOne among numberIn o
     countsFit membersFit contextFits grantFits entryFits descriptorFits entriesFit descriptorsFit onePrincipal principalsDiffer boundBy variablesBound
     wellFormed swallowing firstEquals matches topLiesIn sortFits entryMatches allocatedSortFits fitsAllocated isAll isAnyone fitsStatic contextFitsObject grants
     descriptorGrants someDescriptorGrants isCode targetsOf targetNumber targetListed targetDomain insideOneDomain entryGrants byEntries verdictOf entryOfPolicy
-    isUser witnessUid witnessLeft keyLine bareLine writtenLine valueLine contextText itemText accessText entryText filledText front stretchOf nameAmong textPage
+    isUser witnessUid witnessLeft NotAbove NotAfter keyLine bareLine writtenLine valueLine contextText itemText accessText entryText filledText front stretchOf nameAmong textPage
     fileOf readAnswer readLeaves writtenIn fillAnswer fillLeaves accessFor judgeEvent judgeAnswer reportRefusal Reported lookupAnswer lookupNumbered
     lastDigits decimal refusalLine programWrites programSize programLeaves
 computing = tt

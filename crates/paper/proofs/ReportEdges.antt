@@ -1,8 +1,8 @@
 -- The overlap report's refusals, and what it may and may not say of small policies (document 01, "Overlap report").
-use Prim.Native.Nat.{ℕ, _<_}
+use Prim.Native.Nat.{ℕ, zero, suc, _<_}
 use mathlib.Core.Path.{_≡_, refl}
 use mathlib.Core.Bool.{true, false, false≢true}
-use mathlib.Core.Logic.{inr, ⊎-elim}
+use mathlib.Core.Logic.{inl, inr, ⊎-elim}
 use mathlib.Core.List.{List, [], _∷_, _++_, map}
 use native.Mathlib.Omega.{arith}
 use lib.Dec.{ltb}
@@ -11,7 +11,8 @@ use Rattle.paper.specs.declared.Report.the-variants.{Clear, Clash, Unrep
 use Rattle.paper.specs.Scalars.{Sort, anyone, variable, root, user}
 use Rattle.paper.specs.Policy.{all, every, Entry, Policy}
 use Rattle.paper.specs.Table.{wellFormed}
-use Rattle.paper.specs.Overlap.{PairBefore, Says, witnessUid, witnessLeft}
+use Rattle.paper.specs.Match.{Moment}
+use Rattle.paper.specs.Overlap.{PairBefore, NotAfter, BothMatch, Says, witnessUid, witnessLeft}
 use Rattle.paper.specs.Promises.{reportRefusal}
 use Rattle.paper.proofs.Computing.{computing}
 use Rattle.paper.proofs.WorkedPolicy.{context}
@@ -50,6 +51,25 @@ witness-uids :
 unfolding computing
 witness-uids = refl
 
+-- ---- the order of stacks: "the shortest .. and among the shortest the lowest function numbers from the base up" (document 02 k)
+
+shorter-first : NotAfter (9 ∷ []) (0 ∷ 0 ∷ []) × (NotAfter (0 ∷ 0 ∷ []) (9 ∷ []) → ⊥)
+unfolding computing
+shorter-first = (inl (omega arith), λ h. ⊎-elim (λ l. omega arith) (λ e. omega (arith, e .0)) h)
+
+lowest-from-the-base-up : NotAfter (0 ∷ 9 ∷ []) (1 ∷ 0 ∷ []) × (NotAfter (1 ∷ 0 ∷ []) (0 ∷ 9 ∷ []) → ⊥)
+unfolding computing
+lowest-from-the-base-up =
+    (inr (refl, inl (omega arith)), λ h. ⊎-elim (λ l. omega arith) (λ e. ⊎-elim (λ l. omega arith) (λ f. omega (arith, f .0)) (e .1)) h)
+
+then-the-next : NotAfter (4 ∷ 0 ∷ []) (4 ∷ 0 ∷ []) × NotAfter (4 ∷ 0 ∷ []) (4 ∷ 1 ∷ []) × (NotAfter (4 ∷ 1 ∷ []) (4 ∷ 0 ∷ []) → ⊥)
+unfolding computing
+then-the-next = (
+  inr (refl, inr (refl, inr (refl, tt))),
+  inr (refl, inr (refl, inl (omega arith))),
+  λ h. ⊎-elim (λ l. omega arith) (λ e. ⊎-elim (λ l. omega arith) (λ f. ⊎-elim (λ l. omega arith) (λ g. omega (arith, g .0)) (f .1)) (e .1)) h,
+)
+
 -- ---- what it says: function 0 of subject domain 0, and entries for it
 
 abbrev policy : List Entry → Policy
@@ -62,6 +82,25 @@ two = policy (entry anyone ∷ entry user ∷ [])
 -- no pair stands before 0 and 1
 none-before : (i j : ℕ) → i < j → PairBefore i j 0 1 → ⊥
 none-before i j below before = ⊎-elim (λ h. omega arith) (λ h. omega arith) before
+
+-- 0 is the least stack that these two match
+no-stack : (m : Moment) → BothMatch two 0 1 m → m .stack ≡ [] → ⊥
+unfolding computing
+no-stack m both e = let h = both .one in false≢true (rw e at h)
+
+zero-first : (s : List ℕ) → (s ≡ [] → ⊥) → NotAfter (0 ∷ []) s
+unfolding computing
+zero-first [] some = absurd (some refl)
+zero-first (zero ∷ []) some = inr (refl, inr (refl, tt))
+zero-first (suc x ∷ []) some = inr (refl, inl (omega arith))
+zero-first (x ∷ y ∷ s) some = inl (omega arith)
+
+zero-least : (m : Moment) → BothMatch two 0 1 m → NotAfter (0 ∷ []) (m .stack)
+zero-least m both = zero-first (m .stack) (no-stack m both)
+
+-- two functions of the domain
+abbrev twoFunctions : Policy
+twoFunctions = record { objectDomains = 0; subjectDomains = 1; objects = []; functions = 0 ∷ 0 ∷ []; entries = entry anyone ∷ entry user ∷ [] }
 
 module _ (old new : List ℕ) where
   one-entry-clear : Says (policy (entry user ∷ [])) old (witnessLeft [] old) Clear
@@ -76,6 +115,7 @@ module _ (old new : List ℕ) where
         listed = omega arith;
         first = λ i j below listed before m both. none-before i j below before;
         both = record { one = refl; other = refl };
+        least = zero-least;
         short = omega arith;
         left = refl;
         uidIs = refl;
@@ -111,6 +151,18 @@ module _ (old new : List ℕ) where
   not-without-a-stack : Says two old new (Clash 0 1 0 1 0) → ⊥
   unfolding computing
   not-without-a-stack said = false≢true (said .both .one)
+
+  -- a stack of one frame more than needed, the higher of two functions
+  not-a-longer-stack : Says two old (witnessLeft (0 ∷ 0 ∷ []) old) (Clash 0 1 2 1 0) → ⊥
+  unfolding computing
+  not-a-longer-stack said =
+      ⊎-elim (λ l. omega arith) (λ e. omega (arith, e .0)) (said .least (record { stack = 0 ∷ []; uid = 1; gid = 0 }) (record { one = refl; other = refl }))
+
+  not-a-higher-function : Says twoFunctions old (witnessLeft (1 ∷ []) old) (Clash 0 1 1 1 0) → ⊥
+  unfolding computing
+  not-a-higher-function said =
+      ⊎-elim (λ l. omega arith) (λ e. ⊎-elim (λ l. omega arith) (λ f. omega (arith, f .0)) (e .1))
+      (said .least (record { stack = 0 ∷ []; uid = 1; gid = 0 }) (record { one = refl; other = refl }))
 
   -- "lower entry least, then higher least": of three that all match, not the first and the third
   not-a-later-pair : (depth uid gid : ℕ) → Says (policy (entry anyone ∷ entry user ∷ entry variable ∷ [])) old new (Clash 0 2 depth uid gid) → ⊥

@@ -1,8 +1,8 @@
--- The overlap report (document 01, "Overlap report", and demand 3).
+-- The overlap report (document 01, "Overlap report", and demand 3; document 02 h and k).
 use Prim.Native.Nat.{ℕ, _<_, _≤_}
 use mathlib.Core.Path.{_≡_}
 use mathlib.Core.Logic.{_⊎_}
-use mathlib.Core.List.{List, [], _++_}
+use mathlib.Core.List.{List, [], _∷_, _++_}
 use mathlib.Core.Bool.{Bool, true, cond, _||_}
 use lib.Dec.{eqb}
 use lib.ListN.{length, getD, take, drop}
@@ -43,12 +43,24 @@ witnessUid a b = cond (isUser (a .context .uid) || isUser (b .context .uid)) 1 0
 unfoldable pub witnessLeft : List ℕ → List ℕ → List ℕ
 witnessLeft stack old = padded witnessWords stack ++ drop witnessWords old
 
+-- from the base up no function number is above the other's, up to the first that is below it
+unfoldable pub NotAbove : List ℕ → List ℕ → Type 0
+NotAbove [] v = Unit {0}
+NotAbove (x ∷ u) [] = ⊥
+NotAbove (x ∷ u) (y ∷ v) = (x < y) ⊎ ((x ≡ y) × NotAbove u v)
+
+-- the order of stacks: "the shortest .. and among the shortest the lowest function numbers from the base up" (document 02 k)
+unfoldable pub NotAfter : List ℕ → List ℕ → Type 0
+NotAfter u v = NotAbove (length u ∷ u) (length v ∷ v)
+
 -- "the first such pair in file order" with a moment "that both match", of at most 30 functions (document 02 h)
 pub record FirstClash (p : Policy) (old new : List ℕ) (lower higher depth uid gid : ℕ) : Type 0 where
   pub ordered : lower < higher
   pub listed : higher < length (p .entries)
   pub first : (i j : ℕ) → i < j → j < length (p .entries) → PairBefore i j lower higher → NeverBoth p i j
   pub both : BothMatch p lower higher (record { stack = take depth new; uid = uid; gid = gid })
+  -- "The stack written must be the shortest that both entries match, and among the shortest the lowest" (document 02 k)
+  pub least : (m : Moment) → BothMatch p lower higher m → NotAfter (take depth new) (m .stack)
   pub short : depth ≤ witnessWords
   pub left : new ≡ witnessLeft (take depth new) old
   pub uidIs : uid ≡ witnessUid (entryOfPolicy p lower) (entryOfPolicy p higher)

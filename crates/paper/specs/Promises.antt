@@ -117,7 +117,7 @@ unfoldable pub judgeAnswer : List ℕ → ℕ → ℕ → Moment → Moment → 
 judgeAnswer table operation target m allocation =
     cond (wellFormed table) (judgeEvent (policyIn table) operation target m allocation) (Unjudged 20)
 
--- ---- the overlap report: a table, and the witness before and after. The stack in the witness is not fixed, but for what `Says` says of it
+-- ---- the overlap report: a table, and the witness before and after
 
 -- "the report's [order is] 20, 40"; 40: "under 30 words" (document 02 h)
 unfoldable pub reportRefusal : List ℕ → List ℕ → ℕ

@@ -4,7 +4,6 @@
 
 use crate::case::{Check, Mix};
 use crate::lent::Lent;
-use crate::options::Options;
 use crate::page::outcome;
 use crate::read::not_zero;
 use crate::show;
@@ -20,7 +19,7 @@ const TABLE: u32 = 3;
 const TABLE_AGAIN: u32 = 4;
 
 /// A text, and outputs that hold anything but zeros before the calls.
-pub fn ask(case: u64, dice: &mut Dice, _: &Options, requests: &mut Requests) -> Check {
+pub fn ask(case: u64, dice: &mut Dice, requests: &mut Requests) -> Check {
     let text = texts::first(case).unwrap_or_else(|| texts::text(dice));
     let filled = filled(&text).ok();
     let rooms = rooms(dice, filled.as_ref().map(Vec::len)).into_iter();

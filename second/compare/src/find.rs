@@ -1,7 +1,6 @@
 //! `find`: a text, a list, a kind and a name to the name's number.
 
 use crate::case::{Check, Mix};
-use crate::options::Options;
 use crate::show;
 use crate::wire::{Call, Function, Replies, Requests};
 use cases::findings::{finding, in_text, Finding, Search};
@@ -13,7 +12,7 @@ const LIST: u32 = 1;
 const NAME: u32 = 2;
 
 /// A text, a list, and many names that are searched for.
-pub fn ask(case: u64, dice: &mut Dice, _: &Options, requests: &mut Requests) -> Check {
+pub fn ask(case: u64, dice: &mut Dice, requests: &mut Requests) -> Check {
     let finding = match texts::first(case) {
         Some(text) => in_text(dice, text),
         None => finding(dice),

@@ -1,7 +1,6 @@
 //! `judge` and `judge_known`: a table and an event to a verdict.
 
 use crate::case::Check;
-use crate::options::Options;
 use crate::show;
 use crate::wire::{Call, Function, Replies, Requests};
 use cases::events::{self, OwnEvent};
@@ -18,13 +17,13 @@ const ALLOCATION: u32 = 2;
 const KNOWN_EVENTS: usize = 100;
 
 /// Any table and a few events on it.
-pub fn ask(_: u64, dice: &mut Dice, _: &Options, requests: &mut Requests) -> Check {
+pub fn ask(_: u64, dice: &mut Dice, requests: &mut Requests) -> Check {
     let words = tables::table(dice);
     ask_all(dice, Function::Judge, words, 4, requests)
 }
 
 /// A well-formed table and many events on it.
-pub fn ask_known(_: u64, dice: &mut Dice, _: &Options, requests: &mut Requests) -> Check {
+pub fn ask_known(_: u64, dice: &mut Dice, requests: &mut Requests) -> Check {
     let words = tables::sound_table(dice);
     ask_all(dice, Function::JudgeKnown, words, KNOWN_EVENTS, requests)
 }

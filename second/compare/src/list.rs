@@ -1,7 +1,6 @@
 //! `list`: a text to the list of its names, or to the refusal of it.
 
 use crate::case::{Check, Mix};
-use crate::options::Options;
 use crate::page::outcome;
 use crate::show;
 use crate::wire::{Call, Function, Replies, Requests};
@@ -13,7 +12,7 @@ const TEXT: u32 = 0;
 const LIST: u32 = 1;
 
 /// A text, and lists that hold anything but zeros before the calls.
-pub fn ask(case: u64, dice: &mut Dice, _: &Options, requests: &mut Requests) -> Check {
+pub fn ask(case: u64, dice: &mut Dice, requests: &mut Requests) -> Check {
     let text = texts::first(case).unwrap_or_else(|| texts::text(dice));
     let size = listed(&text).ok().map(|list| list.len());
     let rooms = rooms(dice, size).into_iter();

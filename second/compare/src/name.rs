@@ -3,7 +3,6 @@
 
 use crate::case::{Check, Mix};
 use crate::lent::Lent;
-use crate::options::Options;
 use crate::page::outcome;
 use crate::show;
 use crate::wire::{Call, Function, Replies, Requests};
@@ -17,7 +16,7 @@ use second::{Answer, Map, Refusal};
 const TEXT: u32 = 0;
 
 /// A text and many questions about it.
-pub fn ask(case: u64, dice: &mut Dice, _: &Options, requests: &mut Requests) -> Check {
+pub fn ask(case: u64, dice: &mut Dice, requests: &mut Requests) -> Check {
     let text = texts::first(case).unwrap_or_else(|| texts::text(dice));
     let questions = questions(dice, &text);
     requests.lend(TEXT, &text);

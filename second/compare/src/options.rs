@@ -15,8 +15,6 @@ stops at the first difference.
                              overlap, page, read, fill, name, list or find;
                              else all
   --need NAME,NAME           fail if one of these is not there
-  --exact-witness on or off  whether the witness must be the lowest of the
-                             shortest; else on
   --bridge COMMAND           the command that runs the bridge; else the environment
                              variable DOVETENON_BRIDGE, or target/bridge/run
   --help                     print this
@@ -34,8 +32,6 @@ pub struct Options {
     pub only: Option<String>,
     /// Functions without which nothing is compared.
     pub need: Vec<String>,
-    /// Whether the witness must be the lowest of the shortest.
-    pub exact_witness: bool,
     /// The command that runs the bridge, if not the usual one.
     pub bridge: Option<String>,
 }
@@ -48,7 +44,6 @@ impl Default for Options {
             from: 0,
             only: None,
             need: Vec::new(),
-            exact_witness: true,
             bridge: None,
         }
     }
@@ -70,11 +65,6 @@ impl Options {
                     options.need = value.split(',').map(known).collect::<Result<_, _>>()?;
                 }
                 "--bridge" => options.bridge = Some(value.clone()),
-                "--exact-witness" => match value.as_str() {
-                    "on" => options.exact_witness = true,
-                    "off" => options.exact_witness = false,
-                    _ => return Err("--exact-witness is on or off".to_string()),
-                },
                 _ => return Err(format!("{name} is unknown")),
             }
         }

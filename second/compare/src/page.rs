@@ -1,14 +1,13 @@
 //! `page`: a text to its first fault of 2, 3, and 4, 9, 5.
 
 use crate::case::Check;
-use crate::options::Options;
 use crate::show;
 use crate::wire::{Call, Function, Replies, Requests};
 use cases::{texts, Dice};
 use second::answer::REFUSED;
 use second::{first_fault, Answer, Refusal};
 
-pub fn ask(case: u64, dice: &mut Dice, _: &Options, requests: &mut Requests) -> Check {
+pub fn ask(case: u64, dice: &mut Dice, requests: &mut Requests) -> Check {
     let bytes = texts::first(case).unwrap_or_else(|| texts::text(dice));
     requests.lend(0, &bytes);
     requests.call(&Call::new(Function::Page, &[0], &[]));

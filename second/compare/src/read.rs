@@ -1,7 +1,6 @@
 //! `read`: a text to its table, or to the refusal of it.
 
 use crate::case::Check;
-use crate::options::Options;
 use crate::page::{outcome, told};
 use crate::show;
 use crate::wire::{Call, Function, Replies, Requests};
@@ -12,7 +11,7 @@ const TEXT: u32 = 0;
 const TABLE: u32 = 1;
 
 /// A text, and a table that holds anything but zeros before the call.
-pub fn ask(case: u64, dice: &mut Dice, _: &Options, requests: &mut Requests) -> Check {
+pub fn ask(case: u64, dice: &mut Dice, requests: &mut Requests) -> Check {
     let (text, room) = match texts::first(case) {
         Some(text) => (text, TABLE_WORDS + 1),
         None => (texts::text(dice), room(dice)),

@@ -10,7 +10,7 @@ use std::io::{self, Write};
 use std::ops::Range;
 
 /// Makes the case of this number and asks for it.
-type Ask = fn(u64, &mut Dice, &Options, &mut Requests) -> Check;
+type Ask = fn(u64, &mut Dice, &mut Requests) -> Check;
 
 fn ask(function: Function) -> Ask {
     match function {
@@ -80,15 +80,11 @@ fn run_function(
             Ok(true)
         }
         Err(Difference { case, told }) => {
-            let witness = match options.exact_witness {
-                true => "",
-                false => " --exact-witness off",
-            };
             writeln!(out, "{name}: difference at seed {seed}, case {case}")?;
             writeln!(out, "{told}")?;
             writeln!(
                 out,
-                "replay: --only {name} --seed {seed} --from {case} --count 1{witness}"
+                "replay: --only {name} --seed {seed} --from {case} --count 1"
             )?;
             Ok(false)
         }
@@ -113,7 +109,7 @@ impl Round {
         let mut end = cases.start;
         while end < cases.end && requests.bytes().len() < full {
             let mut dice = Dice::of_case(options.seed, end);
-            checks.push(ask(function)(end, &mut dice, options, &mut requests));
+            checks.push(ask(function)(end, &mut dice, &mut requests));
             end += 1;
         }
         Round {

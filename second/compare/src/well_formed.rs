@@ -1,12 +1,11 @@
 //! `well_formed`: a table to yes or no.
 
 use crate::case::Check;
-use crate::options::Options;
 use crate::show;
 use crate::wire::{Call, Function, Replies, Requests};
 use cases::{tables, Dice};
 
-pub fn ask(_: u64, dice: &mut Dice, _: &Options, requests: &mut Requests) -> Check {
+pub fn ask(_: u64, dice: &mut Dice, requests: &mut Requests) -> Check {
     let words = if dice.percent(50) {
         tables::doubtful_table(dice)
     } else {

@@ -55,7 +55,6 @@ fn found(fault: &str, line: &str, words: &[&str]) {
     }
     let replay = printed.lines().last().unwrap();
     let replay = options(replay.strip_prefix("replay: ").unwrap()).unwrap();
-    assert_eq!(replay.exact_witness, asked.exact_witness);
     assert_eq!(compared(fault, &replay), (false, printed));
 }
 
@@ -138,20 +137,9 @@ fn wrong_reports_are_found() {
         only,
         &["witness: written outside of what was lent"],
     );
-    // One that no entry matches is found without the exact one too.
-    found(
-        "a witness is unreal",
-        "--only overlap --exact-witness off",
-        &["does not match"],
-    );
-}
-
-#[test]
-fn a_longer_real_witness_passes_only_without_exact() {
-    let fault = "a witness is longer";
-    found(fault, "--only overlap", &["length 2", "length 1"]);
-    let any = options("--only overlap --exact-witness off --count 2000").unwrap();
-    assert!(compared(fault, &any).0);
+    found("a witness is unreal", only, &["witness: place 0"]);
+    found("a witness is longer", only, &["length 2", "length 1"]);
+    found("a witness is higher", only, &["witness: place 0"]);
 }
 
 #[test]
@@ -430,7 +418,7 @@ fn the_program_tells_a_difference_by_its_status() {
     assert!(printed.starts_with("page: difference at seed 1, case"));
     let (status, printed) = run("", &["--help"]);
     assert_eq!(status, Some(0));
-    for name in ["--seed", "--exact-witness", "judge_known"] {
+    for name in ["--seed", "--count", "judge_known"] {
         assert!(printed.contains(name), "{printed}");
     }
     assert_eq!(run("", &["--strange", "1"]).0, Some(2));
@@ -494,17 +482,15 @@ fn what_is_lent_is_watched() {
 #[test]
 fn options_are_read() {
     assert_eq!(options(""), Ok(Options::default()));
-    let all = "--seed 3 --count 4 --from 5 --only judge --exact-witness off --bridge b";
+    let all = "--seed 3 --count 4 --from 5 --only judge --bridge b";
     let all = options(all).unwrap();
     assert_eq!((all.seed, all.count, all.from), (3, 4, 5));
     assert_eq!(all.only.as_deref(), Some("judge"));
     assert_eq!(all.bridge.as_deref(), Some("b"));
-    assert!(!all.exact_witness);
     let wrong = [
         "--seed",
         "--seed x",
         "--strange 1",
-        "--exact-witness maybe",
         "--only jury",
         "--need judge,jury",
     ];

@@ -1,6 +1,6 @@
 -- The refusals in their order, else what `first_clash` says.
 use borrow.Author.Needs.{needs}
-use Rattle.overlap.proofs.Reporting.{ill-formed, no-room, ready, reported, reported-least}
+use Rattle.overlap.proofs.Reporting.{ill-formed, no-room, ready, reported}
 use Rattle.overlap.proofs.overlap.Statement.{statement}
 use Rattle.overlap.proofs.overlap.Tie as tie
 
@@ -20,7 +20,7 @@ same-length : tie.Need-same-length
 same-length c = search needs
 
 returns-3 : tie.Need-returns-3
-returns-3 c = search (needs, reported, reported-least)
+returns-3 c = search (needs, reported)
 
 pub overlap-spec : {M : Type 1} → statement M
 overlap-spec =

@@ -12,8 +12,8 @@ use second::policy::ELEMENTS;
 use second::refusal::{EMPTY, LAYOUT, LONG_FILLED, SHORT_OUTPUT, SHORT_TABLE, TWICE, UNKNOWN};
 use second::table::{ENTRIES_AT, ENTRY_WORDS, PATTERN_AT, UNUSED_AT};
 use second::{
-    filled, filler, find, first_fault, page, well_formed, Event, Map, Overlap, Refusal, Verdict,
-    TABLE_WORDS,
+    decode, filled, filler, find, first_fault, page, well_formed, Event, Map, Overlap, Refusal,
+    Verdict, TABLE_WORDS,
 };
 use std::collections::BTreeMap;
 use std::io::{self, Read, Write};
@@ -238,6 +238,17 @@ fn reported(fault: &str, table: &[u16], witness: &mut [u16]) -> u64 {
             witness[1] = witness[0];
             *length = 2;
         }
+        (
+            "a witness is higher",
+            Overlap::Clash {
+                lower,
+                higher,
+                length: 1,
+                ..
+            },
+        ) if is_all(table, *lower) && is_all(table, *higher) => {
+            witness[0] = highest_beside(table, witness[0]);
+        }
         _ => {}
     }
     report.answer().packed()
@@ -249,6 +260,14 @@ fn is_all(table: &[u16], entry: u8) -> bool {
     block[PATTERN_AT..][..ELEMENTS]
         .iter()
         .all(|&word| word == 0)
+}
+
+/// The highest function in the domain of this one.
+fn highest_beside(table: &[u16], function: u16) -> u16 {
+    let functions = decode(table).map_or(Vec::new(), |policy| policy.functions);
+    let domain = functions.get(usize::from(function));
+    let highest = functions.iter().rposition(|of| Some(of) == domain);
+    highest.map_or(function, |highest| highest as u16)
 }
 
 /// The text as one would see it who takes the ends of lines otherwise.
