@@ -84,18 +84,18 @@ module _ (text table : List ℕ) (file : List Field) (read : fileOf text ≡ fie
   pub demand-3-clash : (r ≡ Clear → ⊥) → ClashNamed (policyOf file) old new r
   demand-3-clash = clash-named (policyOf file) old new r (read-says text table file read room old new r enough reported)
 
--- ---- "Office files end lines with CR LF." A text without CR, and the same with CR LF for LF at the end of any of its lines, `which` saying of which: the
+-- ---- "Office files end lines with CR LF." A text without CR, and the same with CR LF for LF at the end of the lines that `withReturn` names: the
 -- same answer, the same table, the same filled text, and each name with the same bytes, further on by one for each CR before it.
 
-module _ (which : ℕ → Bool) (text : List ℕ) (plain : noReturn text ≡ true) (short : length (office which text) ≤ textBytes) where
+module _ (withReturn : ℕ → Bool) (text : List ℕ) (plain : noReturn text ≡ true) (short : length (office withReturn text) ≤ textBytes) where
   pub office-read : (table : List ℕ)
-      → (readAnswer (office which text) table ≡ readAnswer text table) × (readLeaves (office which text) table ≡ readLeaves text table)
-  office-read table = (office-answer which text plain short table, office-table which text plain short table)
+      → (readAnswer (office withReturn text) table ≡ readAnswer text table) × (readLeaves (office withReturn text) table ≡ readLeaves text table)
+  office-read table = (office-answer withReturn text plain short table, office-table withReturn text plain short table)
 
-  pub office-fill : (out : List ℕ) → (fillAnswer (office which text) out ≡ fillAnswer text out) × (fillLeaves (office which text) out ≡ fillLeaves text out)
-  office-fill out = (office-filling which text plain short out, office-filled which text plain short out)
+  pub office-fill : (out : List ℕ) → (fillAnswer (office withReturn text) out ≡ fillAnswer text out) × (fillLeaves (office withReturn text) out ≡ fillLeaves text out)
+  office-fill out = (office-filling withReturn text plain short out, office-filled withReturn text plain short out)
 
   pub office-names : (map : Map) (domain : ℕ)
-      → (lookupAnswer (office which text) map domain .bytes ≡ lookupAnswer text map domain .bytes)
-      × FurtherOn (office which text) (lookupAnswer (office which text) map domain) (lookupAnswer text map domain)
-  office-names map domain = (office-bytes which text plain short map domain, office-place which text plain short map domain)
+      → (lookupAnswer (office withReturn text) map domain .bytes ≡ lookupAnswer text map domain .bytes)
+      × FurtherOn (office withReturn text) (lookupAnswer (office withReturn text) map domain) (lookupAnswer text map domain)
+  office-names map domain = (office-bytes withReturn text plain short map domain, office-place withReturn text plain short map domain)

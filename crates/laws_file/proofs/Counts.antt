@@ -23,10 +23,14 @@ use Rattle.laws_file.proofs.Smallest.{Finds, same-faults, look-finds, f
 
 -- ---- a count
 
+pub total-both : {A : Type 0} (weight : A → ℕ) (xs ys : List A) → total weight (xs ++ ys) ≡ total weight xs + total weight ys
+unfolding total
+total-both weight [] ys = omega arith
+total-both weight (x ∷ xs) ys = omega (arith, total-both weight xs ys)
+
 total-more : {A : Type 0} (weight : A → ℕ) (before : List A) (x : A) → total weight (before ++ (x ∷ [])) ≡ total weight before + weight x
 unfolding total
-total-more weight [] x = omega arith
-total-more weight (y ∷ before) x = omega (arith, total-more weight before x)
+total-more weight before x = omega (arith, total-both weight before (x ∷ []))
 
 module _ {A : Type 0} (line weight : A → ℕ) (limit : ℕ) where
   -- so far the count is within its limit

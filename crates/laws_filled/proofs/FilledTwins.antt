@@ -42,7 +42,7 @@ silent-twins seen (e ∷ es) n h = go (anyOf (samePrincipal e) seen) h (silent-t
 
 -- entries that keep their principals
 module _ (h : List Field → List Field) (keeps : (a b : List Field) → samePrincipal (h a) (h b) ≡ samePrincipal a b) where
-  any-kept : (e : List Field) (seen : List (List Field)) → anyOf (samePrincipal (h e)) (map h seen) ≡ anyOf (samePrincipal e) seen
+  pub any-kept : (e : List Field) (seen : List (List Field)) → anyOf (samePrincipal (h e)) (map h seen) ≡ anyOf (samePrincipal e) seen
   unfolding anyOf
   any-kept e [] = refl
   any-kept e (x ∷ xs) = rw (keeps e x, any-kept e xs) refl
@@ -52,7 +52,7 @@ module _ (h : List Field → List Field) (keeps : (a b : List Field) → samePri
   twins-kept seen [] = refl
   twins-kept seen (e ∷ es) = rw (any-kept e seen, twins-kept (e ∷ seen) es) refl
 
-says-principal : (a b : List Field) → samePrincipal (map says a) (map says b) ≡ samePrincipal a b
+pub says-principal : (a b : List Field) → samePrincipal (map says a) (map says b) ≡ samePrincipal a b
 unfolding samePrincipal
 says-principal a b =
     rw (

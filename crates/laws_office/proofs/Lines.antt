@@ -28,20 +28,20 @@ module _ (at b : ℕ) (bs : List ℕ) where
   unfolding linesFrom withByte returnBeforeFeed
   lines-on e f = rw (f, e) refl
 
-module _ (which : ℕ → Bool) (n b : ℕ) (bs : List ℕ) where
-  pub office-feed : eqb b 10 ≡ true → which n ≡ false → officeFrom which n (b ∷ bs) ≡ b ∷ officeFrom which (n + 1) bs
+module _ (withReturn : ℕ → Bool) (n b : ℕ) (bs : List ℕ) where
+  pub office-feed : eqb b 10 ≡ true → withReturn n ≡ false → officeFrom withReturn n (b ∷ bs) ≡ b ∷ officeFrom withReturn (n + 1) bs
   unfolding officeFrom officeByte
   office-feed e w = rw (w, e) refl
 
-  pub office-return : eqb b 10 ≡ true → which n ≡ true → officeFrom which n (b ∷ bs) ≡ 13 ∷ b ∷ officeFrom which (n + 1) bs
+  pub office-return : eqb b 10 ≡ true → withReturn n ≡ true → officeFrom withReturn n (b ∷ bs) ≡ 13 ∷ b ∷ officeFrom withReturn (n + 1) bs
   unfolding officeFrom officeByte
   office-return e w = rw (w, e) refl
 
-  pub office-on : eqb b 10 ≡ false → officeFrom which n (b ∷ bs) ≡ b ∷ officeFrom which n bs
+  pub office-on : eqb b 10 ≡ false → officeFrom withReturn n (b ∷ bs) ≡ b ∷ officeFrom withReturn n bs
   unfolding officeFrom officeByte
-  office-on e = go (which n)
+  office-on e = go (withReturn n)
     where
-      go : (w : Bool) → cond (w && eqb b lineFeed) (13 ∷ b ∷ []) (b ∷ []) ++ officeFrom which (cond (eqb b lineFeed) (n + 1) n) bs ≡ b ∷ officeFrom which n bs
+      go : (w : Bool) → cond (w && eqb b lineFeed) (13 ∷ b ∷ []) (b ∷ []) ++ officeFrom withReturn (cond (eqb b lineFeed) (n + 1) n) bs ≡ b ∷ officeFrom withReturn n bs
       go true = rw e refl
       go false = rw e refl
 
@@ -49,40 +49,40 @@ module _ (which : ℕ → Bool) (n b : ℕ) (bs : List ℕ) where
 
 -- how many CRs stand before line n
 unfoldable pub returnsBefore : (ℕ → Bool) → ℕ → ℕ
-returnsBefore which n = returnsTo which (n - 1)
+returnsBefore withReturn n = returnsTo withReturn (n - 1)
 
-pub before-more : (which : ℕ → Bool) (n : ℕ) → 1 ≤ n → returnsBefore which (n + 1) ≡ returnsBefore which n + cond (which n) 1 0
+pub before-more : (withReturn : ℕ → Bool) (n : ℕ) → 1 ≤ n → returnsBefore withReturn (n + 1) ≡ returnsBefore withReturn n + cond (withReturn n) 1 0
 unfolding returnsBefore returnsTo
-before-more which zero h = absurd (omega arith)
-before-more which (suc n) h =
+before-more withReturn zero h = absurd (omega arith)
+before-more withReturn (suc n) h =
     let p : suc n + 1 - 1 ≡ suc n = omega arith in
     let q : suc n - 1 ≡ n = omega arith in
     rw (p, q) refl
 
 -- a line of the office file, whose number is n
 unfoldable pub movedLine : (ℕ → Bool) → ℕ → Line → Line
-movedLine which n l = record { start = l .start + returnsBefore which n; text = l .text; ended = l .ended }
+movedLine withReturn n l = record { start = l .start + returnsBefore withReturn n; text = l .text; ended = l .ended }
 
 unfoldable pub movedLines : (ℕ → Bool) → ℕ → List Line → List Line
-movedLines which n [] = []
-movedLines which n (l ∷ ls) = movedLine which n l ∷ movedLines which (n + 1) ls
+movedLines withReturn n [] = []
+movedLines withReturn n (l ∷ ls) = movedLine withReturn n l ∷ movedLines withReturn (n + 1) ls
 
-on-moved : (which : ℕ → Bool) (n at b : ℕ) (ls : List Line) → onLine (at + returnsBefore which n) b (movedLines which n ls) ≡ movedLines which n (onLine at b ls)
+on-moved : (withReturn : ℕ → Bool) (n at b : ℕ) (ls : List Line) → onLine (at + returnsBefore withReturn n) b (movedLines withReturn n ls) ≡ movedLines withReturn n (onLine at b ls)
 unfolding movedLines movedLine onLine
-on-moved which n at b [] = refl
-on-moved which n at b (l ∷ ls) = refl
+on-moved withReturn n at b [] = refl
+on-moved withReturn n at b (l ∷ ls) = refl
 
-end-moved : (which : ℕ → Bool) (n at : ℕ) (ls : List Line) → endAt (at + returnsBefore which n) ∷ movedLines which (n + 1) ls ≡ movedLines which n (endAt at ∷ ls)
+end-moved : (withReturn : ℕ → Bool) (n at : ℕ) (ls : List Line) → endAt (at + returnsBefore withReturn n) ∷ movedLines withReturn (n + 1) ls ≡ movedLines withReturn n (endAt at ∷ ls)
 unfolding movedLines movedLine
-end-moved which n at ls = refl
+end-moved withReturn n at ls = refl
 
-none-moved : (which : ℕ → Bool) (n : ℕ) → [] ≡ movedLines which n []
+none-moved : (withReturn : ℕ → Bool) (n : ℕ) → [] ≡ movedLines withReturn n []
 unfolding movedLines
-none-moved which n = refl
+none-moved withReturn n = refl
 
-pub office-none : (which : ℕ → Bool) (n : ℕ) → officeFrom which n [] ≡ []
+pub office-none : (withReturn : ℕ → Bool) (n : ℕ) → officeFrom withReturn n [] ≡ []
 unfolding officeFrom
-office-none which n = refl
+office-none withReturn n = refl
 
 pub lines-none : (at : ℕ) → linesFrom at [] ≡ []
 unfolding linesFrom
@@ -92,29 +92,29 @@ pub other : (b : ℕ) (bs : List ℕ) → noReturn (b ∷ bs) ≡ true → (eqb 
 unfolding noReturn allOf
 other b bs h = (not-true (eqb b 13) (both-left (not (eqb b 13)) _ h), both-right (not (eqb b 13)) _ h)
 
-pub lines-moved : (which : ℕ → Bool) (n at : ℕ) (xs : List ℕ) → 1 ≤ n → noReturn xs ≡ true
-    → linesFrom (at + returnsBefore which n) (officeFrom which n xs) ≡ movedLines which n (linesFrom at xs)
-lines-moved which n at [] h none = rw (office-none which n, lines-none, lines-none) (none-moved which n)
-lines-moved which n at (b ∷ bs) h none =
-    go (eqb b 10) refl (which n) refl (lines-moved which (n + 1) (at + 1) bs (omega arith) (other b bs none .1)) (lines-moved which n (at + 1) bs h (other b bs none .1))
+pub lines-moved : (withReturn : ℕ → Bool) (n at : ℕ) (xs : List ℕ) → 1 ≤ n → noReturn xs ≡ true
+    → linesFrom (at + returnsBefore withReturn n) (officeFrom withReturn n xs) ≡ movedLines withReturn n (linesFrom at xs)
+lines-moved withReturn n at [] h none = rw (office-none withReturn n, lines-none, lines-none) (none-moved withReturn n)
+lines-moved withReturn n at (b ∷ bs) h none =
+    go (eqb b 10) refl (withReturn n) refl (lines-moved withReturn (n + 1) (at + 1) bs (omega arith) (other b bs none .1)) (lines-moved withReturn n (at + 1) bs h (other b bs none .1))
   where
-    go : (f : Bool) → eqb b 10 ≡ f → (w : Bool) → which n ≡ w
-        → linesFrom (at + 1 + returnsBefore which (n + 1)) (officeFrom which (n + 1) bs) ≡ movedLines which (n + 1) (linesFrom (at + 1) bs)
-        → linesFrom (at + 1 + returnsBefore which n) (officeFrom which n bs) ≡ movedLines which n (linesFrom (at + 1) bs)
-        → linesFrom (at + returnsBefore which n) (officeFrom which n (b ∷ bs)) ≡ movedLines which n (linesFrom at (b ∷ bs))
+    go : (f : Bool) → eqb b 10 ≡ f → (w : Bool) → withReturn n ≡ w
+        → linesFrom (at + 1 + returnsBefore withReturn (n + 1)) (officeFrom withReturn (n + 1) bs) ≡ movedLines withReturn (n + 1) (linesFrom (at + 1) bs)
+        → linesFrom (at + 1 + returnsBefore withReturn n) (officeFrom withReturn n bs) ≡ movedLines withReturn n (linesFrom (at + 1) bs)
+        → linesFrom (at + returnsBefore withReturn n) (officeFrom withReturn n (b ∷ bs)) ≡ movedLines withReturn n (linesFrom at (b ∷ bs))
     go true e true w next same =
-        let q : at + returnsBefore which n + 1 + 1 ≡ at + 1 + returnsBefore which (n + 1) = let m = rw w at (before-more which n h) in omega (arith, m) in
-        rw (office-return which n b bs e w, lines-return (at + returnsBefore which n) b (officeFrom which (n + 1) bs) e, q, next, lines-feed at b bs e)
-        (end-moved which n at (linesFrom (at + 1) bs))
+        let q : at + returnsBefore withReturn n + 1 + 1 ≡ at + 1 + returnsBefore withReturn (n + 1) = let m = rw w at (before-more withReturn n h) in omega (arith, m) in
+        rw (office-return withReturn n b bs e w, lines-return (at + returnsBefore withReturn n) b (officeFrom withReturn (n + 1) bs) e, q, next, lines-feed at b bs e)
+        (end-moved withReturn n at (linesFrom (at + 1) bs))
     go true e false w next same =
-        let q : at + returnsBefore which n + 1 ≡ at + 1 + returnsBefore which (n + 1) = let m = rw w at (before-more which n h) in omega (arith, m) in
-        rw (office-feed which n b bs e w, lines-feed (at + returnsBefore which n) b (officeFrom which (n + 1) bs) e, q, next, lines-feed at b bs e)
-        (end-moved which n at (linesFrom (at + 1) bs))
+        let q : at + returnsBefore withReturn n + 1 ≡ at + 1 + returnsBefore withReturn (n + 1) = let m = rw w at (before-more withReturn n h) in omega (arith, m) in
+        rw (office-feed withReturn n b bs e w, lines-feed (at + returnsBefore withReturn n) b (officeFrom withReturn (n + 1) bs) e, q, next, lines-feed at b bs e)
+        (end-moved withReturn n at (linesFrom (at + 1) bs))
     go false e w v next same =
-        let q : at + returnsBefore which n + 1 ≡ at + 1 + returnsBefore which n = omega arith in
+        let q : at + returnsBefore withReturn n + 1 ≡ at + 1 + returnsBefore withReturn n = omega arith in
         let r : eqb b 13 ≡ false = other b bs none .0 in
-        rw (office-on which n b bs e, lines-on (at + returnsBefore which n) b (officeFrom which n bs) e r, q, same, lines-on at b bs e r)
-        (on-moved which n at b (linesFrom (at + 1) bs))
+        rw (office-on withReturn n b bs e, lines-on (at + returnsBefore withReturn n) b (officeFrom withReturn n bs) e r, q, same, lines-on at b bs e r)
+        (on-moved withReturn n at b (linesFrom (at + 1) bs))
 
 -- ---- the bytes
 
@@ -148,31 +148,31 @@ bad-none : (n : ℕ) → badByteLine n [] ≡ 0
 unfolding badByteLine
 bad-none n = refl
 
-pub bad-moved : (which : ℕ → Bool) (n : ℕ) (xs : List ℕ) → noReturn xs ≡ true → badByteLine n (officeFrom which n xs) ≡ badByteLine n xs
-bad-moved which n [] none = rw (office-none which n) refl
-bad-moved which n (b ∷ bs) none =
-    go (eqb b 10) refl (which n) refl (bad-moved which (n + 1) bs (other b bs none .1)) (bad-moved which n bs (other b bs none .1))
+pub bad-moved : (withReturn : ℕ → Bool) (n : ℕ) (xs : List ℕ) → noReturn xs ≡ true → badByteLine n (officeFrom withReturn n xs) ≡ badByteLine n xs
+bad-moved withReturn n [] none = rw (office-none withReturn n) refl
+bad-moved withReturn n (b ∷ bs) none =
+    go (eqb b 10) refl (withReturn n) refl (bad-moved withReturn (n + 1) bs (other b bs none .1)) (bad-moved withReturn n bs (other b bs none .1))
   where
-    go : (f : Bool) → eqb b 10 ≡ f → (w : Bool) → which n ≡ w → badByteLine (n + 1) (officeFrom which (n + 1) bs) ≡ badByteLine (n + 1) bs
-        → badByteLine n (officeFrom which n bs) ≡ badByteLine n bs → badByteLine n (officeFrom which n (b ∷ bs)) ≡ badByteLine n (b ∷ bs)
-    go true e true w next same = rw (office-return which n b bs e w, bad-return n b (officeFrom which (n + 1) bs) e, next, bad-feed n b bs e) refl
-    go true e false w next same = rw (office-feed which n b bs e w, bad-feed n b (officeFrom which (n + 1) bs) e, next, bad-feed n b bs e) refl
+    go : (f : Bool) → eqb b 10 ≡ f → (w : Bool) → withReturn n ≡ w → badByteLine (n + 1) (officeFrom withReturn (n + 1) bs) ≡ badByteLine (n + 1) bs
+        → badByteLine n (officeFrom withReturn n bs) ≡ badByteLine n bs → badByteLine n (officeFrom withReturn n (b ∷ bs)) ≡ badByteLine n (b ∷ bs)
+    go true e true w next same = rw (office-return withReturn n b bs e w, bad-return n b (officeFrom withReturn (n + 1) bs) e, next, bad-feed n b bs e) refl
+    go true e false w next same = rw (office-feed withReturn n b bs e w, bad-feed n b (officeFrom withReturn (n + 1) bs) e, next, bad-feed n b bs e) refl
     go false e w v next same =
         rw (
-          office-on which n b bs e,
-          bad-on n b (officeFrom which n bs) e,
+          office-on withReturn n b bs e,
+          bad-on n b (officeFrom withReturn n bs) e,
           bad-on n b bs e,
           same,
-          stands-alone b (nextByte (officeFrom which n bs)) (nextByte bs) (other b bs none .0),
+          stands-alone b (nextByte (officeFrom withReturn n bs)) (nextByte bs) (other b bs none .0),
         ) refl
 
 -- it is not shorter
-pub office-longer : (which : ℕ → Bool) (n : ℕ) (xs : List ℕ) → length xs ≤ length (officeFrom which n xs)
-office-longer which n [] = omega arith
-office-longer which n (b ∷ bs) = go (eqb b 10) refl (which n) refl (office-longer which (n + 1) bs) (office-longer which n bs)
+pub office-longer : (withReturn : ℕ → Bool) (n : ℕ) (xs : List ℕ) → length xs ≤ length (officeFrom withReturn n xs)
+office-longer withReturn n [] = omega arith
+office-longer withReturn n (b ∷ bs) = go (eqb b 10) refl (withReturn n) refl (office-longer withReturn (n + 1) bs) (office-longer withReturn n bs)
   where
-    go : (f : Bool) → eqb b 10 ≡ f → (w : Bool) → which n ≡ w → length bs ≤ length (officeFrom which (n + 1) bs) → length bs ≤ length (officeFrom which n bs)
-        → suc (length bs) ≤ length (officeFrom which n (b ∷ bs))
-    go true e true w next same = rw (office-return which n b bs e w) (omega arith)
-    go true e false w next same = rw (office-feed which n b bs e w) (omega arith)
-    go false e w v next same = rw (office-on which n b bs e) (omega arith)
+    go : (f : Bool) → eqb b 10 ≡ f → (w : Bool) → withReturn n ≡ w → length bs ≤ length (officeFrom withReturn (n + 1) bs) → length bs ≤ length (officeFrom withReturn n bs)
+        → suc (length bs) ≤ length (officeFrom withReturn n (b ∷ bs))
+    go true e true w next same = rw (office-return withReturn n b bs e w) (omega arith)
+    go true e false w next same = rw (office-feed withReturn n b bs e w) (omega arith)
+    go false e w v next same = rw (office-on withReturn n b bs e) (omega arith)

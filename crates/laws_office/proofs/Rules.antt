@@ -2,20 +2,21 @@
 use mathlib.Core.Path.{_≡_, refl, sym, ap, _∙_}
 use mathlib.Core.List.{List, [], _∷_, _++_, map}
 use mathlib.Core.Bool.{Bool}
-use Prim.Native.Nat.{ℕ, zero, suc, _+_}
+use Prim.Native.Nat.{ℕ, _+_}
 use lib.ListN.{length-map}
-use Rattle.paper.specs.Common.{anyOf}
 use Rattle.paper.specs.Limits.{mostDomains, mostMembers, mostEntries, mostDescriptors}
-use Rattle.paper.specs.Listing.{objectName, objectMembers, subjectName, subjectMembers, principal, subjectOfEntry, executionContext, canRead, canWrite}
-use Rattle.paper.specs.Listing.{callContextIn, uidIn, gidIn, objectsIn}
-use Rattle.paper.specs.Page.{Field, Outcome, fields}
+use Rattle.paper.specs.Listing.{objectName, objectMembers, subjectName, subjectMembers, principal, executionContext, canRead, canWrite}
+use Rattle.paper.specs.Listing.{uidIn, gidIn, objectsIn}
+use Rattle.paper.specs.Page.{Field, fields}
 use Rattle.paper.specs.Entries.{isAtOne, valueAt, stretchesFrom, entriesOf, itemsOf, lineOfEntry}
 use Rattle.paper.specs.Rules.{firstWith, passing, oneAt, membersAt, descriptorsOf, descriptorsIn, longPattern, overLimit, repeated, domainNamed}
 use Rattle.paper.specs.Rules.{membersNamed, repeatsInList, namedTwice, domainsAt, identifiersAt, namesUnknown, unknownName}
-use Rattle.paper.specs.Rules.{isUnboundKey, isUnbound, unboundVariable, samePrincipal, twinAfter, twinPrincipal, unlessLine, ruled}
+use Rattle.paper.specs.Rules.{isUnboundKey, isUnbound, unboundVariable, samePrincipal, twinAfter, twinPrincipal, ruled}
 use Rattle.laws_filled.specs.Fields.{unwritten}
 use Rattle.laws_filled.proofs.Says.{says, map-same, stretches-kept, value-says, domains-say, identifiers-say}
+use Rattle.laws_filled.proofs.FilledTwins.{any-kept, says-principal}
 use Rattle.laws_office.specs.Office.{moved, movedOutcome}
+use Rattle.laws_office.proofs.Pages.{unless-line}
 
 -- ---- looks through a list, one thing after the other
 
@@ -26,9 +27,9 @@ module _ {A B : Type 0} (h : A → B) (line : B → ℕ) (line′ : A → ℕ) (
   passing-kept limit k [] = refl
   passing-kept limit k (x ∷ xs) = rw (lines x, weights x, passing-kept limit (k + weight′ x) xs) refl
 
-module _ (which : ℕ → Bool) where
+module _ (withReturn : ℕ → Bool) where
   abbrev g : Field → Field
-  g = moved which
+  g = moved withReturn
 
   first-kept : (test test′ : Field → Bool) → ((f : Field) → test (g f) ≡ test′ f) → (fs : List Field) → firstWith test (map g fs) ≡ firstWith test′ fs
   unfolding firstWith moved
@@ -172,28 +173,12 @@ module _ (which : ℕ → Bool) where
   -- ---- 11
 
   principal-moved : (a b : List Field) → samePrincipal (map g a) (map g b) ≡ samePrincipal a b
-  unfolding samePrincipal
-  principal-moved a b =
-      rw (
-        value-moved subjectOfEntry a,
-        value-moved subjectOfEntry b,
-        value-moved (callContextIn executionContext) a,
-        value-moved (callContextIn executionContext) b,
-        value-moved (uidIn executionContext) a,
-        value-moved (uidIn executionContext) b,
-        value-moved (gidIn executionContext) a,
-        value-moved (gidIn executionContext) b,
-      ) refl
-
-  seen-moved : (e : List Field) (seen : List (List Field)) → anyOf (samePrincipal (map g e)) (map (map g) seen) ≡ anyOf (samePrincipal e) seen
-  unfolding anyOf
-  seen-moved e [] = refl
-  seen-moved e (d ∷ seen) = rw (principal-moved e d, seen-moved e seen) refl
+  principal-moved a b = sym (says-principal (map g a) (map g b)) ∙ rw (moved-says a, moved-says b) (says-principal a b)
 
   twins-after : (seen es : List (List Field)) → twinAfter (map (map g) seen) (map (map g) es) ≡ twinAfter seen es
   unfolding twinAfter
   twins-after seen [] = refl
-  twins-after seen (e ∷ es) = rw (seen-moved e seen, entry-line e, twins-after (e ∷ seen) es) refl
+  twins-after seen (e ∷ es) = rw (any-kept (map g) principal-moved e seen, entry-line e, twins-after (e ∷ seen) es) refl
 
   twins-moved : (fs : List Field) → twinPrincipal (map g fs) ≡ twinPrincipal fs
   unfolding twinPrincipal
@@ -201,15 +186,10 @@ module _ (which : ℕ → Bool) where
 
   -- ---- all of them
 
-  unless-moved : (number n : ℕ) (o o′ : Outcome) → o ≡ movedOutcome which o′ → unlessLine number n o ≡ movedOutcome which (unlessLine number n o′)
-  unfolding unlessLine
-  unless-moved number zero o o′ e = e
-  unless-moved number (suc n) o o′ e = refl
-
-  pub rules-moved : (fs : List Field) → ruled (map g fs) ≡ movedOutcome which (ruled fs)
+  pub rules-moved : (fs : List Field) → ruled (map g fs) ≡ movedOutcome withReturn (ruled fs)
   unfolding ruled
   rules-moved fs =
       rw (limits-moved fs, twice-moved fs, unknown-moved fs, unbound-moved fs, twins-moved fs)
-      (unless-moved 6 (overLimit fs) _ _
-      (unless-moved 7 (namedTwice fs) _ _
-      (unless-moved 8 (unknownName fs) _ _ (unless-moved 10 (unboundVariable fs) _ _ (unless-moved 11 (twinPrincipal fs) _ (fields fs) refl)))))
+      (unless-line withReturn 6 (overLimit fs) _ _
+      (unless-line withReturn 7 (namedTwice fs) _ _
+      (unless-line withReturn 8 (unknownName fs) _ _ (unless-line withReturn 10 (unboundVariable fs) _ _ (unless-line withReturn 11 (twinPrincipal fs) _ (fields fs) refl)))))

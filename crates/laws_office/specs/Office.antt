@@ -15,14 +15,14 @@ use Rattle.laws_file.specs.Rules.{total}
 unfoldable pub officeByte : Bool → ℕ → List ℕ
 officeByte ends b = cond (ends && eqb b lineFeed) (carriageReturn ∷ b ∷ []) (b ∷ [])
 
--- what is left of a text from line n on, with CR LF at the end of the lines that `which` names
+-- what is left of a text from line n on, with CR LF at the end of the lines that `withReturn` names
 unfoldable pub officeFrom : (ℕ → Bool) → ℕ → List ℕ → List ℕ
-officeFrom which n [] = []
-officeFrom which n (b ∷ bs) = officeByte (which n) b ++ officeFrom which (cond (eqb b lineFeed) (n + 1) n) bs
+officeFrom withReturn n [] = []
+officeFrom withReturn n (b ∷ bs) = officeByte (withReturn n) b ++ officeFrom withReturn (cond (eqb b lineFeed) (n + 1) n) bs
 
 -- a text with any of its LFs written as CR LF: "One file may mix both ends."
 unfoldable pub office : (ℕ → Bool) → List ℕ → List ℕ
-office which t = officeFrom which 1 t
+office withReturn t = officeFrom withReturn 1 t
 
 -- how many CRs stand in a stretch
 unfoldable pub returnsIn : List ℕ → ℕ
@@ -34,17 +34,17 @@ noReturn t = allOf (λ b. not (eqb b carriageReturn)) t
 
 -- how many of the first n lines end with CR LF
 unfoldable pub returnsTo : (ℕ → Bool) → ℕ → ℕ
-returnsTo which zero = 0
-returnsTo which (suc n) = returnsTo which n + cond (which (suc n)) 1 0
+returnsTo withReturn zero = 0
+returnsTo withReturn (suc n) = returnsTo withReturn n + cond (withReturn (suc n)) 1 0
 
 -- a field of the office file: its value starts further on, by one for each CR, which stand on the lines before its own
 unfoldable pub moved : (ℕ → Bool) → Field → Field
-moved which f = record { line = f .line; place = f .place; start = f .start + returnsTo which (f .line - 1); value = f .value }
+moved withReturn f = record { line = f .line; place = f .place; start = f .start + returnsTo withReturn (f .line - 1); value = f .value }
 
 -- the fields of the office file; a refusal keeps its number and line
 abbrev pub movedOutcome : (ℕ → Bool) → Outcome → Outcome
-movedOutcome which (fields fs) = fields (map (moved which) fs)
-movedOutcome which (fault number line) = fault number line
+movedOutcome withReturn (fields fs) = fields (map (moved withReturn) fs)
+movedOutcome withReturn (fault number line) = fault number line
 
 -- a stretch of the office file that is not empty lies further on than another by one for each CR before it
 unfoldable pub FurtherOn : List ℕ → Stretch → Stretch → Type 0

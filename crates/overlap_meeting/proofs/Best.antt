@@ -197,8 +197,9 @@ module _ (order : List ℕ → List ℕ → Bool) where
           let so-far = other-of-one e P in
           cell-short a e (end P []) _ _ _ (suc (length P)) (omega arith) (omega arith) (omega arith) (λ f h i. omega arith) (λ g h i. omega arith)
 
-      one-next : (e b : Element) (Q : List Element) (k : ℕ) → 1 ≤ k → length (bestBy order test low (e ∷ []) Q) ≤ k → ((g : ℕ) → e ≡ all → b ≡ fn g → suc (length (bestBy order test low (e ∷ []) Q)) ≤ k) →
-          length (bestBy order test low (e ∷ []) (b ∷ Q)) ≤ k
+      one-next : (e b : Element) (Q : List Element) (k : ℕ) → 1 ≤ k → length (bestBy order test low (e ∷ []) Q) ≤ k
+          → ((g : ℕ) → e ≡ all → b ≡ fn g → suc (length (bestBy order test low (e ∷ []) Q)) ≤ k)
+          → length (bestBy order test low (e ∷ []) (b ∷ Q)) ≤ k
       unfolding bestBy row
       one-next e b Q k h i front = cell-short e b (end [] Q) _ _ _ k (omega arith) (omega arith) i (λ f x y. omega arith) front
 
