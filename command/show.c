@@ -46,16 +46,24 @@ static void print_grant(const uint16_t *grant, unsigned domains)
     fputs("]\n", stdout);
 }
 
+/* An element of a pattern: functions by their numbers, domains by theirs. */
+static void print_pattern_element(unsigned word)
+{
+    if (word == 0)
+        fputs("all", stdout);
+    else if (word < FIRST_DOMAIN)
+        printf("%u", word - 1);
+    else
+        printf("domain %u", word - FIRST_DOMAIN);
+}
+
 static void print_context(const uint16_t *context)
 {
     static const char *const sorts[] = {"all", "a variable", "root", "user"};
     fputs("      call_context: [", stdout);
     for (unsigned i = 0; i < context[CONTEXT_ELEMENTS]; i++) {
         fputs(i > 0 ? ", " : "", stdout);
-        if (context[CONTEXT_PATTERN + i] == 0)
-            fputs("all", stdout);
-        else
-            printf("%d", context[CONTEXT_PATTERN + i] - 1);
+        print_pattern_element(context[CONTEXT_PATTERN + i]);
     }
     printf("]\n      uid: %s\n      gid: %s\n", sorts[context[CONTEXT_UID]], sorts[context[CONTEXT_GID]]);
 }

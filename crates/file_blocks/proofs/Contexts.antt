@@ -1,7 +1,6 @@
 -- A context written from its keys' values: word by word, and as the paper has it.
 use mathlib.Core.Path.{_≡_, refl, sym, ap, _∙_}
-use mathlib.Core.Bool.{Bool, true, false, cond}
-use mathlib.Core.List.{List, [], _∷_, map, append-nil}
+use mathlib.Core.List.{List, [], _∷_, append-nil, map-map}
 use Prim.Native.Nat.{ℕ, _+_, _-_, _<_, _≤_}
 use native.Mathlib.Omega.{arith}
 use mir.Syntax.{w16}
@@ -9,7 +8,7 @@ use mir.Val.{Fits}
 use lib.ListN.{length, take, drop, set, replicate, length-map, length-set, length-replicate}
 use borrow.Author.Tests.{lt-ltb, le-ltb}
 use borrow.Rule.Slice.PartMut.{putMid, same-len-mid}
-use Rattle.paper.specs.Common.{bytes, is, numberIn}
+use Rattle.paper.specs.Common.{bytes}
 use Rattle.paper.specs.Limits.{mostElements}
 use Rattle.paper.specs.Scalars.{sortNumber, sortOf}
 use Rattle.paper.specs.Lists.{elements}
@@ -17,14 +16,14 @@ use Rattle.paper.specs.Listing.{canRead, canWrite, subjectOfEntry, callContextI
 use Rattle.paper.specs.Page.{Field}
 use Rattle.paper.specs.Entries.{valueAt}
 use Rattle.paper.specs.Rules.{descriptorsOf}
-use Rattle.paper.specs.Policy.{all, fn, elementOf, contextOf}
+use Rattle.paper.specs.Policy.{elementOf, contextOf}
 use Rattle.paper.specs.Table.{contextSize, subjectAt, padded, elementWord, contextWords}
 use Rattle.laws.proofs.Stretches.{length-padded}
 use Rattle.file_fields.specs.Fields.{between, nextAt, valueOr}
 use Rattle.file_fields.specs.Places.{IsContext}
 use Rattle.file_fields.proofs.Places.{subject-default, uid-default, gid-default, told-value}
 use Rattle.file_index.specs.Buckets.{numbersIn}
-use Rattle.file_words.specs.Words.{wordBy, wordsIn}
+use Rattle.file_words.specs.Words.{wordsIn}
 use Rattle.file_blocks.specs.Written.{putFrom, patternIn, contextOfWords, contextIn, contextBy, contextAt, countsBy}
 use Rattle.file_blocks.proofs.Behind.{words-written}
 
@@ -127,17 +126,9 @@ length-context pattern uid gid few = omega (arith, length-padded mostElements pa
 
 -- ---- by the names
 
-words-by-name : (names xs : List (List ℕ)) → map (wordBy true (numberIn names)) xs ≡ map elementWord (map (elementOf names) xs)
-unfolding wordBy elementOf elementWord
-words-by-name names [] = refl
-words-by-name names (x ∷ xs) = rw (words-by-name names xs) (ap (λ (w : ℕ). w ∷ map elementWord (map (elementOf names) xs)) (go (is "all" x)))
-  where
-    go : (t : Bool) → cond t 0 (numberIn names x + 1) ≡ elementWord (cond t all (fn (numberIn names x)))
-    go true = refl
-    go false = refl
-
-pub context-is : (names : List (List ℕ)) (place : ℕ) (fs : List Field) → contextAt (numberIn names) place fs ≡ contextWords (contextOf names place fs)
+pub context-is : (functions domains : List (List ℕ)) (place : ℕ) (fs : List Field)
+    → contextAt (λ s. elementWord (elementOf functions domains s)) place fs ≡ contextWords (contextOf functions domains place fs)
 unfolding contextBy contextOfWords contextWords contextOf
-context-is names place fs =
+context-is functions domains place fs =
     let xs : List (List ℕ) = elements (valueAt (callContextIn place) fs) in
-    rw (length-map xs (wordBy true (numberIn names)), length-map xs (elementOf names), words-by-name names xs) refl
+    rw (length-map xs (λ s. elementWord (elementOf functions domains s)), length-map xs (elementOf functions domains), map-map elementWord (elementOf functions domains) xs) refl

@@ -24,7 +24,6 @@ use Rattle.laws.proofs.Counting.{length-map-counted, getD-counted}
 use Rattle.laws.proofs.Stretches.{Stands}
 use Rattle.laws.proofs.Sets.{contains-after-insert}
 use Rattle.file_index.proofs.Names.{same-sym}
-use Rattle.file_words.specs.Words.{wordBy}
 use Rattle.laws_table.proofs.Grants.{length-grant, grant-stands}
 use Rattle.file_blocks.specs.Written.{withWord, withWords, grantBy}
 
@@ -66,8 +65,8 @@ module _ (names : List (List ℕ)) (apart : repeats [] names ≡ false) (e : ℕ
       (λ h. let p : getD names e [] ≡ s = same-equal _ _ h in eq-eqb _ _ (rw p at (own-number [] names apart e l .own)))
 
   -- one of the words of a list is e if name e stands in the list
-  any-named : (xs : List (List ℕ)) → anyOf (λ w. eqb w e) (map (wordBy false (numberIn names)) xs) ≡ among (getD names e []) xs
-  unfolding among anyOf wordBy
+  any-named : (xs : List (List ℕ)) → anyOf (λ w. eqb w e) (map (numberIn names) xs) ≡ among (getD names e []) xs
+  unfolding among anyOf
   any-named [] = refl
   any-named (x ∷ xs) = rw (number-is x, any-named xs)
 
@@ -180,7 +179,7 @@ mapped f (x ∷ xs) d d′ (suc i) l = mapped f xs d d′ i (omega arith)
 module _ (names : List (List ℕ)) (n : ℕ) (count : n ≡ length names) (few : n ≤ mostDomains) (apart : repeats [] names ≡ false) where
   -- the words of a list's names
   abbrev ws : List (List ℕ) → List ℕ
-  ws xs = map (wordBy false (numberIn names)) xs
+  ws xs = map (numberIn names) xs
 
   these-are : (xs : List (List ℕ)) → 0 ∷ withWords n (replicate setSize 0) (ws xs) ≡ grantWords (these (map (λ name. among name xs) names))
   these-are xs =

@@ -1,6 +1,6 @@
 -- The words at a place are those of its value: its next field has them; where there is none, what an omitted field means has them.
 use mathlib.Core.Path.{_≡_, refl, sym, ap, _∙_}
-use mathlib.Core.Bool.{true, false, cond}
+use mathlib.Core.Bool.{cond}
 use mathlib.Core.Logic.{dite, ⊎-elim}
 use mathlib.Core.List.{List, [], _∷_, map}
 use Prim.Native.Nat.{ℕ, suc, _-_, _<_, _≤_}
@@ -11,26 +11,28 @@ use borrow.Author.Tests.{ne-eqb, lt-ltb, le-ltb, le-leb, lt-leb}
 use Rattle.paper.specs.Common.{bytes, isEmpty, is, anyOf, numberIn, same, cut, onPiece}
 use Rattle.paper.specs.Limits.{mostElements}
 use Rattle.paper.specs.Lists.{bracketed, unspaced, elementsIn, elements}
-use Rattle.paper.specs.Listing.{objectName, subjectName, subjectMembers, executionContext, canCall, canReturn, canRead, canWrite}
+use Rattle.paper.specs.Listing.{objectName, subjectName, executionContext, canCall, canReturn, canRead, canWrite}
 use Rattle.paper.specs.Listing.{callContextIn, objectsIn, objectContextIn}
 use Rattle.paper.specs.Page.{Field}
 use Rattle.paper.specs.Entries.{callContexts, defaultAt, valueAt}
-use Rattle.paper.specs.Rules.{subjectLists, objectLists, domainsAt, identifiersAt}
+use Rattle.paper.specs.Rules.{subjectLists, objectLists, domainsAt}
+use Rattle.paper.specs.Policy.{elementOf}
+use Rattle.paper.specs.Table.{elementWord}
 use Rattle.file_fields.specs.Fields.{valueIn, fieldAt, between, nextAt}
 use Rattle.file_fields.specs.Places.{IsAccess, IsContext}
 use Rattle.file_fields.proofs.Between.{next-at-place, value-is-omitted, value-found, value-or}
 use Rattle.file_fields.proofs.Places.{pattern-default, call-default, return-default, objects-default}
 use Rattle.file_words.specs.Looking.{soughtAt}
-use Rattle.file_words.specs.declared.places.Sought.the-variants.{Subjects, Objects, Functions}
-use Rattle.file_words.specs.Words.{Numbers, numbersOf, wordBy, wordsBy, fieldWords, wordsIn, Worded}
+use Rattle.file_words.specs.declared.places.Sought.the-variants.{Subjects, Objects, Elements}
+use Rattle.file_words.specs.Words.{Numbers, numbersOf, wordsBy, fieldWords, wordsIn, Worded}
 use Rattle.file_words.proofs.Worded.{words-of-field}
 use Rattle.file_blocks.specs.Written.{patternIn, contextIn, everyIn, grantIn, contextBy, contextAt, grantBy}
 
 -- ---- what is looked up at the places of an entry
 
-seeks-functions : (place : ℕ) → IsContext place → soughtAt (callContextIn place) ≡ Functions
+seeks-elements : (place : ℕ) → IsContext place → soughtAt (callContextIn place) ≡ Elements
 unfolding soughtAt anyOf subjectLists objectLists callContexts
-seeks-functions place which = ⊎-elim (λ (e : place ≡ executionContext). rw e refl)
+seeks-elements place which = ⊎-elim (λ (e : place ≡ executionContext). rw e refl)
     (⊎-elim (λ (e : place ≡ objectContextIn canRead). rw e refl) (λ (e : place ≡ objectContextIn canWrite). rw e refl)) which
 
 seeks-callers : soughtAt canCall ≡ Subjects
@@ -57,9 +59,9 @@ unfolding same
 all-meant [] = refl
 all-meant (b ∷ bs) = rw (ne-eqb (suc (length bs)) 0 (λ e. omega arith)) refl
 
-pattern-of-all : (number : List ℕ → ℕ) → 0 ∷ [] ≡ map (wordBy true number) (elements (bytes "[all]"))
-unfolding wordBy elements elementsIn bracketed unspaced cut onPiece same
-pattern-of-all number = refl
+pattern-of-all : (file : List Field) → 0 ∷ [] ≡ map (numbersOf file .element) (elements (bytes "[all]"))
+unfolding elementOf elementWord elements elementsIn bracketed unspaced cut onPiece same
+pattern-of-all file = refl
 
 -- ---- the words at a place, among the fields from one number up to another of the file's n
 
@@ -94,7 +96,7 @@ module _ (t list words starts : List ℕ) (n from to : ℕ) (within : to ≤ n)
     words-next h = words-of-field numbers t list n words starts worded next (omega arith) ∙ rw (next-at-place t list place from to h) refl
 
     -- a grant
-    module _ (number : List ℕ → ℕ) (sought : (s : List ℕ) → wordsBy numbers (soughtAt place) s ≡ map (wordBy false number) (elements s))
+    module _ (number : List ℕ → ℕ) (sought : (s : List ℕ) → wordsBy numbers (soughtAt place) s ≡ map number (elements s))
         (d : defaultAt place ≡ bytes "all") (count : ℕ) where
       grant-in : grantIn t list words starts place from to count ≡ grantBy number count (valueAt place fs)
       unfolding grantIn grantBy everyIn same
@@ -105,20 +107,20 @@ module _ (t list words starts : List ℕ) (n from to : ℕ) (within : to ≤ n)
   -- a pattern
   module _ (place : ℕ) (which : IsContext place) where
     pattern-in : patternIn words starts (next (callContextIn place)) to
-        ≡ map (wordBy true (numbers .function)) (elements (valueAt (callContextIn place) fs))
+        ≡ map (numbers .element) (elements (valueAt (callContextIn place) fs))
     unfolding patternIn wordsBy
     pattern-in = dite (decLt (next (callContextIn place)) to)
         (λ (h : next (callContextIn place) < to).
-        rw (lt-ltb (next (callContextIn place)) to h, words-next (callContextIn place) h, seeks-functions place which, elements-next (callContextIn place) h) refl)
+        rw (lt-ltb (next (callContextIn place)) to h, words-next (callContextIn place) h, seeks-elements place which, elements-next (callContextIn place) h) refl)
         (λ (h : ¬ (next (callContextIn place) < to)).
         rw (le-ltb (next (callContextIn place)) to (omega arith), value-none (callContextIn place) (omega arith), pattern-default place which)
-        (pattern-of-all (numbers .function)))
+        (pattern-of-all (between t list 0 n)))
 
     pub pattern-few : length (elements (valueAt (callContextIn place) fs)) ≤ mostElements
         → length (patternIn words starts (next (callContextIn place)) to) ≤ mostElements
     pattern-few few = rw (pattern-in, length-map) few
 
-    pub context-in : contextIn t list words starts place from to ≡ contextAt (numberIn (identifiersAt subjectMembers (between t list 0 n))) place fs
+    pub context-in : contextIn t list words starts place from to ≡ contextAt (numbers .element) place fs
     unfolding contextIn contextBy
     context-in = rw pattern-in refl
 

@@ -1,7 +1,7 @@
 -- The words of a context and of a grant as the code writes them, from the words of their names.
 use Prim.Native.Nat.{ℕ, _+_, _-_}
 use mathlib.Core.List.{List, [], _∷_, map}
-use mathlib.Core.Bool.{Bool, true, false, cond, _||_}
+use mathlib.Core.Bool.{Bool, cond, _||_}
 use lib.Dec.{ltb, leb}
 use lib.ListN.{length, set, replicate}
 use Rattle.paper.specs.Common.{is}
@@ -14,7 +14,7 @@ use Rattle.paper.specs.Entries.{valueAt}
 use Rattle.paper.specs.Rules.{descriptorsOf}
 use Rattle.paper.specs.Table.{everyWord, setSize, padded, withDomain}
 use Rattle.file_fields.specs.Fields.{between, nextAt, valueIn}
-use Rattle.file_words.specs.Words.{wordBy, wordsIn}
+use Rattle.file_words.specs.Words.{wordsIn}
 
 -- words written over those from number i on, one behind the other
 unfoldable pub putFrom : ℕ → List ℕ → List ℕ → List ℕ
@@ -60,12 +60,12 @@ grantIn t list words starts place from to n =
     (everyWord ∷ replicate setSize 0)
     (0 ∷ withWords n (replicate setSize 0) (wordsIn words starts (nextAt list place from (to - from))))
 
--- ---- by numbers
+-- ---- by the words of names
 
-module _ (number : List ℕ → ℕ) where
+module _ (word : List ℕ → ℕ) where
   -- the words of a context, by the values of its keys
   unfoldable pub contextBy : List ℕ → List ℕ → List ℕ → List ℕ
-  contextBy pattern uid gid = contextOfWords (map (wordBy true number) (elements pattern)) uid gid
+  contextBy pattern uid gid = contextOfWords (map word (elements pattern)) uid gid
 
   -- the same of the context at a place, among these fields
   abbrev pub contextAt : ℕ → List Field → List ℕ
@@ -73,8 +73,8 @@ module _ (number : List ℕ → ℕ) where
 
   -- of an entry: its subject, and how many descriptors it has for reads and for writes
   abbrev pub countsBy : List Field → List ℕ
-  countsBy fs = number (valueAt subjectOfEntry fs) ∷ descriptorsOf canRead fs ∷ descriptorsOf canWrite fs ∷ []
+  countsBy fs = word (valueAt subjectOfEntry fs) ∷ descriptorsOf canRead fs ∷ descriptorsOf canWrite fs ∷ []
 
   -- the words of a grant among n domains
   unfoldable pub grantBy : ℕ → List ℕ → List ℕ
-  grantBy n v = cond (is "all" v) (everyWord ∷ replicate setSize 0) (0 ∷ withWords n (replicate setSize 0) (map (wordBy false number) (elements v)))
+  grantBy n v = cond (is "all" v) (everyWord ∷ replicate setSize 0) (0 ∷ withWords n (replicate setSize 0) (map word (elements v)))

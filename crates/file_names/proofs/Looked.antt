@@ -2,31 +2,34 @@
 use mathlib.Core.Path.{_≡_, refl, sym, ap, _∙_}
 use mathlib.Core.Bool.{Bool, true, false, cond, not, _&&_, _||_}
 use mathlib.Core.Logic.{⊎-elim}
-use mathlib.Core.List.{List, [], _∷_, map}
-use Prim.Native.Nat.{ℕ, _+_, _<_, _≤_}
+use mathlib.Core.List.{List, [], _∷_, _++_, map}
+use Prim.Native.Nat.{ℕ, _+_, _-_, _<_, _≤_}
 use native.Mathlib.Omega.{arith}
 use native.Mathlib.Numerals.{add-one}
-use lib.Dec.{eqb, ltb, leb, leb·suc-suc}
+use lib.Dec.{eqb, ltb, leb}
 use lib.ListN.{length, getD, drop, drop-of-length-le}
 use lib.Seq.{drop-cons}
-use borrow.Author.Tests.{lt-ltb, le-ltb, le-leb, lt-leb}
-use Rattle.paper.specs.Common.{bytes, is, allOf, anyOf, among, numberIn}
+use borrow.Author.Tests.{ltb-true, lt-ltb, le-ltb, le-leb, lt-leb}
+use Rattle.paper.specs.Common.{bytes, is, allOf, anyOf, same, among, numberIn}
+use Rattle.paper.specs.Limits.{mostMembers}
 use Rattle.paper.specs.Lists.{elements}
-use Rattle.paper.specs.Listing.{objectName, subjectName, subjectMembers, subjectOfEntry}
+use Rattle.paper.specs.Listing.{objectName, subjectName, subjectOfEntry}
 use Rattle.paper.specs.Page.{Field}
 use Rattle.paper.specs.Entries.{isAtOne, callContexts}
-use Rattle.paper.specs.Rules.{firstWith, subjectLists, objectLists, domainsAt, identifiersAt, allKnown, namesUnknown, unknownName}
-use Rattle.laws.proofs.Tests.{le-or-lt}
+use Rattle.paper.specs.Rules.{firstWith, subjectLists, objectLists, domainsAt, identifiersAt, elementNames, allKnown, namesUnknown, unknownName}
+use Rattle.paper.specs.Policy.{all, fn, anyIn, elementOf}
+use Rattle.paper.specs.Table.{firstDomainWord, elementWord}
+use Rattle.laws.proofs.Tests.{ltb-shifted, le-or-lt}
 use Rattle.file_fields.specs.Fields.{placeIn, valueIn, fieldAt}
 use Rattle.file_index.specs.Buckets.{numbersIn}
 use Rattle.file_index.specs.Maps.{Mapped}
-use Rattle.file_index.proofs.Names.{same-sym, among-number}
+use Rattle.file_index.proofs.Names.{same-sym, any-more, among-number}
 use Rattle.file_index.proofs.Known.{index-known}
 use Rattle.file_words.specs.Looking.{soughtAt}
-use Rattle.file_words.specs.Words.{numbersOf, wordBy, wordsBy, fieldWords, wordsIn, Worded}
+use Rattle.file_words.specs.Words.{numbersOf, wordsBy, fieldWords, wordsIn, Worded}
 use Rattle.file_words.proofs.Worded.{words-of-field}
 use Rattle.file_words.specs.declared.places.Sought.{Sought}
-use Rattle.file_words.specs.declared.places.Sought.the-variants.{Subject, Subjects, Objects, Functions, Nothing}
+use Rattle.file_words.specs.declared.places.Sought.the-variants.{Subject, Subjects, Objects, Elements, Nothing}
 use Rattle.file_names.specs.Below.{allBelow}
 
 -- ---- every word below a limit
@@ -50,17 +53,23 @@ module _ (words : List ℕ) (limit i : ℕ) (whole : Bool) (inv : allBelow limit
 -- ---- one name
 
 -- the word of a name is below the count exactly when the name is known
-domain-below : (names : List (List ℕ)) (x : List ℕ) → ltb (wordBy false (numberIn names) x) (length names) ≡ among x names
-unfolding wordBy
+domain-below : (names : List (List ℕ)) (x : List ℕ) → ltb (numberIn names x) (length names) ≡ among x names
 domain-below names x = sym (among-number x names)
 
-element-below : (names : List (List ℕ)) (x : List ℕ) → ltb (wordBy true (numberIn names) x) (length names + 1) ≡ among x (bytes "all" ∷ names)
-unfolding wordBy among anyOf
-element-below names x = rw (same-sym x (bytes "all")) (go (is "all" x) (among-number x names))
-  where
-    go : (b : Bool) → among x names ≡ ltb (numberIn names x) (length names) → ltb (cond b 0 (numberIn names x + 1)) (length names + 1) ≡ (b || among x names)
-    go true e = lt-ltb 0 (length names + 1) (omega arith)
-    go false e = rw (add-one, add-one, leb·suc-suc) (sym e)
+-- that of an element, where no function has the word of a domain, exactly when `all`, the functions or the domains have it
+module _ (functions domains : List (List ℕ)) (few : length functions ≤ mostMembers) (x : List ℕ) where
+  element-below : ltb (elementWord (elementOf functions domains x)) (firstDomainWord + length domains) ≡ among x (bytes "all" ∷ (functions ++ domains))
+  unfolding elementOf elementWord among anyOf
+  element-below = rw (same-sym x (bytes "all"), any-more (same x) functions domains) (go (is "all" x) (among x functions) refl)
+    where
+      go : (a f : Bool) → among x functions ≡ f
+          → ltb (elementWord (cond a all (cond f (fn (numberIn functions x)) (anyIn (numberIn domains x))))) (firstDomainWord + length domains) ≡ (a || (f || among x domains))
+      go true f e = lt-ltb 0 (firstDomainWord + length domains) (omega arith)
+      go false true e =
+          lt-ltb (numberIn functions x + 1) (firstDomainWord + length domains) (omega (arith, ltb-true (numberIn functions x) (length functions) (domain-below functions x ∙ e)))
+      go false false e =
+          let d : firstDomainWord + numberIn domains x - firstDomainWord ≡ numberIn domains x = omega arith in
+          rw (← ltb-shifted firstDomainWord (firstDomainWord + numberIn domains x) (length domains) (omega arith), d) (domain-below domains x)
 
 not-below : (a b : ℕ) → leb a b ≡ not (ltb b a)
 not-below a b = ⊎-elim
@@ -87,15 +96,15 @@ module _ (file : List Field) where
   lacks Subject v = not (among v (domainsAt subjectName file))
   lacks Subjects v = not (allKnown (domainsAt subjectName file) (elements v))
   lacks Objects v = not (allKnown (domainsAt objectName file) (elements v))
-  lacks Functions v = not (allKnown (bytes "all" ∷ identifiersAt subjectMembers file) (elements v))
+  lacks Elements v = not (allKnown (elementNames file) (elements v))
   lacks Nothing v = false
 
   by-the-file : (f : Field) → lacks (soughtAt (f .place)) (f .value) ≡ namesUnknown file f
   unfolding namesUnknown soughtAt isAtOne
   by-the-file f = go (eqb (f .place) subjectOfEntry) (anyOf (eqb (f .place)) subjectLists) (anyOf (eqb (f .place)) objectLists) (anyOf (eqb (f .place)) callContexts)
     where
-      go : (a b c d : Bool) → lacks (cond a Subject (cond b Subjects (cond c Objects (cond d Functions Nothing)))) (f .value)
-          ≡ cond a (lacks Subject (f .value)) (cond b (lacks Subjects (f .value)) (cond c (lacks Objects (f .value)) (d && lacks Functions (f .value))))
+      go : (a b c d : Bool) → lacks (cond a Subject (cond b Subjects (cond c Objects (cond d Elements Nothing)))) (f .value)
+          ≡ cond a (lacks Subject (f .value)) (cond b (lacks Subjects (f .value)) (cond c (lacks Objects (f .value)) (d && lacks Elements (f .value))))
       go true b c d = refl
       go false true c d = refl
       go false false true d = refl
@@ -124,19 +133,20 @@ module _ (file : List Field) where
         pub asks-subjects : (ix : List ℕ) → Mapped t ix limit 128 (domainsAt 5 file) → k ≡ Subjects → not r ≡ namesUnknown file (fieldAt t list i)
         unfolding wordsBy
         asks-subjects ix mapped h =
-            rw (g, its-words, h, mapped .index .count, all-below (wordBy false (numberIn (domainsAt 5 file))) _ _ (domain-below (domainsAt 5 file)) (elements (valueIn t list i)))
+            rw (g, its-words, h, mapped .index .count, all-below (numberIn (domainsAt 5 file)) _ _ (domain-below (domainsAt 5 file)) (elements (valueIn t list i)))
             (rw h at told)
 
         pub asks-objects : limit ≡ length (domainsAt 2 file) → k ≡ Objects → not r ≡ namesUnknown file (fieldAt t list i)
         unfolding wordsBy
         asks-objects d h =
-            rw (g, its-words, h, d, all-below (wordBy false (numberIn (domainsAt 2 file))) _ _ (domain-below (domainsAt 2 file)) (elements (valueIn t list i)))
+            rw (g, its-words, h, d, all-below (numberIn (domainsAt 2 file)) _ _ (domain-below (domainsAt 2 file)) (elements (valueIn t list i)))
             (rw h at told)
 
-        pub asks-functions : (functions : ℕ) → limit ≡ functions + 1 → functions ≡ length (identifiersAt 6 file) → k ≡ Functions → not r ≡ namesUnknown file (fieldAt t list i)
-        unfolding wordsBy
-        asks-functions functions c d h =
-            rw (g, its-words, h, c, d, all-below (wordBy true (numberIn (identifiersAt 6 file))) _ _ (element-below (identifiersAt 6 file)) (elements (valueIn t list i)))
+        pub asks-elements : (subjects : ℕ) (ix : List ℕ) → limit ≡ firstDomainWord + subjects → Mapped t ix subjects 128 (domainsAt 5 file)
+            → length (identifiersAt 6 file) ≤ mostMembers → k ≡ Elements → not r ≡ namesUnknown file (fieldAt t list i)
+        unfolding wordsBy elementNames
+        asks-elements subjects ix c mapped few h =
+            rw (g, its-words, h, c, mapped .index .count, all-below (numbersOf file .element) _ _ (element-below (identifiersAt 6 file) (domainsAt 5 file) few) (elements (valueIn t list i)))
             (rw h at told)
 
 -- ---- the scan

@@ -19,10 +19,10 @@ use Rattle.file_fields.proofs.Between.{between-more, between-none}
 use Rattle.file_fields.proofs.Valued.{inside-elements, inside-spaced, inside-short}
 use Rattle.file_index.proofs.Names.{any-more}
 use Rattle.file_words.specs.Looking.{soughtAt}
-use Rattle.file_words.specs.Words.{Numbers, wordBy, wordsBy, fieldWords, wordsIn, Worded, WordedSomehow}
+use Rattle.file_words.specs.Words.{Numbers, wordsBy, fieldWords, wordsIn, Worded, WordedSomehow}
 use Rattle.file_words.proofs.Worded.{words-of-field}
 use Rattle.file_words.specs.declared.places.Sought.{Sought}
-use Rattle.file_words.specs.declared.places.Sought.the-variants.{Subject, Subjects, Objects, Functions, Nothing}
+use Rattle.file_words.specs.declared.places.Sought.the-variants.{Subject, Subjects, Objects, Elements, Nothing}
 use Rattle.file_names.specs.Separate.{separate, isListed, listSeparate, listsSeparate}
 use Rattle.file_names.proofs.Apart.{separate-once}
 
@@ -69,7 +69,7 @@ module _ (place : ℕ) where
   in-lists = any-more (eqb place) subjectLists objectLists ∙ go (eqb place 9) refl (anyOf (eqb place) subjectLists) (anyOf (eqb place) objectLists) (anyOf (eqb place) callContexts) refl refl
     where
       go : (a : Bool) → eqb place 9 ≡ a → (b c d : Bool) → anyOf (eqb place) subjectLists ≡ b → anyOf (eqb place) objectLists ≡ c
-          → (anyOf (eqb place) subjectLists || anyOf (eqb place) objectLists) ≡ isListed (cond a Subject (cond b Subjects (cond c Objects (cond d Functions Nothing))))
+          → (anyOf (eqb place) subjectLists || anyOf (eqb place) objectLists) ≡ isListed (cond a Subject (cond b Subjects (cond c Objects (cond d Elements Nothing))))
       go true e b c d p q = no-list-of-subject (eqb-true place 9 e)
       go false e true c d p q = rw p refl
       go false e false true d p q = rw (p, q) refl
@@ -102,8 +102,8 @@ module _ (list words starts : List ℕ) (i p : ℕ) (k : Sought) (e : p ≡ plac
   pub of-subject : k ≡ Subject → true ≡ listSeparate list words starts i
   of-subject h = separate-at false (ap isListed h)
 
-  pub of-functions : k ≡ Functions → true ≡ listSeparate list words starts i
-  of-functions h = separate-at false (ap isListed h)
+  pub of-elements : k ≡ Elements → true ≡ listSeparate list words starts i
+  of-elements h = separate-at false (ap isListed h)
 
   pub of-nothing : k ≡ Nothing → true ≡ listSeparate list words starts i
   of-nothing h = separate-at false (ap isListed h)
@@ -136,9 +136,9 @@ somehow k t list words starts n w = record { numbers = k; worded = w }
 numbered : (n : Numbers) (k : Sought) (v : List ℕ) (set : List ℕ) → length set ≡ 8 → isListed k ≡ true → separate set (wordsBy n k v) ≡ true → repeats [] (elements v) ≡ false
 unfolding wordsBy
 numbered n Subject v set l h s = absurd (let z : _≡_ {A = ℕ} 0 1 = cc in omega arith)
-numbered n Subjects v set l h s = separate-once (wordBy false (n .subject)) (elements v) set l s
-numbered n Objects v set l h s = separate-once (wordBy false (n .object)) (elements v) set l s
-numbered n Functions v set l h s = absurd (let z : _≡_ {A = ℕ} 0 1 = cc in omega arith)
+numbered n Subjects v set l h s = separate-once (n .subject) (elements v) set l s
+numbered n Objects v set l h s = separate-once (n .object) (elements v) set l s
+numbered n Elements v set l h s = absurd (let z : _≡_ {A = ℕ} 0 1 = cc in omega arith)
 numbered n Nothing v set l h s = absurd (let z : _≡_ {A = ℕ} 0 1 = cc in omega arith)
 
 module _ (t list words starts : List ℕ) (n : ℕ) (worded : WordedSomehow t list n words starts) where

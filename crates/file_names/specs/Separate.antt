@@ -11,7 +11,7 @@ use Rattle.file_fields.specs.Fields.{placeIn}
 use Rattle.file_words.specs.Looking.{soughtAt}
 use Rattle.file_words.specs.Words.{wordsIn}
 use Rattle.file_words.specs.declared.places.Sought.{Sought}
-use Rattle.file_words.specs.declared.places.Sought.the-variants.{Subject, Subjects, Objects, Functions, Nothing}
+use Rattle.file_words.specs.declared.places.Sought.the-variants.{Subject, Subjects, Objects, Elements, Nothing}
 
 -- the words are below 128, not in the set, and no two of them the same
 unfoldable pub separate : List ℕ → List ℕ → Bool
@@ -23,7 +23,7 @@ abbrev pub isListed : Sought → Bool
 isListed Subject = false
 isListed Subjects = true
 isListed Objects = true
-isListed Functions = false
+isListed Elements = false
 isListed Nothing = false
 
 -- so are those of field i, where it is a list of domains

@@ -52,7 +52,7 @@ fn list_distinct(list: &[usize], words: &[u16], starts: &[usize], i: usize) -> b
         Sought::Subjects => distinct(words_of(words, starts, i)),
         Sought::Objects => distinct(words_of(words, starts, i)),
         Sought::Subject => true,
-        Sought::Functions => true,
+        Sought::Elements => true,
         Sought::Nothing => true,
     }
 }

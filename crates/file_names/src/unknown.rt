@@ -1,4 +1,4 @@
-// 8: a domain or function that its map lacks.
+// 8: a domain or an element that its map lacks.
 use file_fields::line_of;
 use file_fields::place_of;
 use file_fields::value_of;
@@ -6,6 +6,7 @@ use file_index::number_in;
 use file_words::places::Sought;
 use file_words::places::sought_at;
 use file_words::words_of;
+use paper::element;
 use text_lines::NO_LINE;
 ghost use mathlib.Core.Path.{_≡_};
 ghost use Prim.Native.Nat.{_+_, _*_, _<_, _≤_};
@@ -32,7 +33,7 @@ fn all_below(words: &[u16], limit: usize) -> bool
     true
 }
 
-// Field i names what its map lacks: the number of such a name is not below the map's count.
+// Field i names what its map lacks: the number of such a name is not below the map's count. An element that no map has is numbered as a domain.
 fn is_unknown(
     t: &[u8],
     list: &[usize],
@@ -40,7 +41,6 @@ fn is_unknown(
     objects: usize,
     subjects_ix: &[usize],
     subjects: usize,
-    functions: usize,
     words: &[u16],
     starts: &[usize],
     i: usize,
@@ -48,7 +48,7 @@ fn is_unknown(
     requires { ⌜ (fieldSize * n ≤ length (now list)) × (i < n) ⌝ }
     requires { ⌜ Mapped (now t) (now «subjects_ix») subjects mostDomains (domainsAt subjectName (between (now t) (now list) 0 n)) ⌝ }
     requires { ⌜ (objects ≡ length (domainsAt objectName (between (now t) (now list) 0 n)))
-        × (functions ≡ length (identifiersAt subjectMembers (between (now t) (now list) 0 n))) × (functions ≤ mostMembers) ⌝ }
+        × (length (identifiersAt subjectMembers (between (now t) (now list) 0 n)) ≤ mostMembers) ⌝ }
     requires { ⌜ Worded (numbersOf (between (now t) (now list) 0 n)) (now t) (now list) n (now words) (now starts) ⌝ }
     ensures { λ r. ⌜ r ≡ namesUnknown (between (now (t .entry)) (now (list .entry)) 0 n) (fieldAt (now (t .entry)) (now (list .entry)) i) ⌝ }
 {
@@ -56,7 +56,10 @@ fn is_unknown(
         Sought::Subject => { subjects <= number_in(t, subjects_ix, subjects, value_of(t, list, i)) }
         Sought::Subjects => !all_below(words_of(words, starts, i), subjects),
         Sought::Objects => !all_below(words_of(words, starts, i), objects),
-        Sought::Functions => !all_below(words_of(words, starts, i), functions + 1),
+        Sought::Elements => !all_below(
+            words_of(words, starts, i),
+            (element::FIRST_DOMAIN as usize) + subjects,
+        ),
         Sought::Nothing => false,
     }
 }
@@ -69,31 +72,19 @@ pub fn unknown_line(
     objects: usize,
     subjects_ix: &[usize],
     subjects: usize,
-    functions: usize,
     words: &[u16],
     starts: &[usize],
 ) -> usize
     requires { ⌜ fieldSize * n ≤ length (now list) ⌝ }
     requires { ⌜ Mapped (now t) (now «subjects_ix») subjects mostDomains (domainsAt subjectName (between (now t) (now list) 0 n)) ⌝ }
     requires { ⌜ (objects ≡ length (domainsAt objectName (between (now t) (now list) 0 n)))
-        × (functions ≡ length (identifiersAt subjectMembers (between (now t) (now list) 0 n))) × (functions ≤ mostMembers) ⌝ }
+        × (length (identifiersAt subjectMembers (between (now t) (now list) 0 n)) ≤ mostMembers) ⌝ }
     requires { ⌜ Worded (numbersOf (between (now t) (now list) 0 n)) (now t) (now list) n (now words) (now starts) ⌝ }
     ensures { λ r. ⌜ r ≡ unknownName (between (now (t .entry)) (now (list .entry)) 0 n) ⌝ }
 {
     let mut i: usize = 0;
     while i < n {
-        if is_unknown(
-            t,
-            list,
-            n,
-            objects,
-            subjects_ix,
-            subjects,
-            functions,
-            words,
-            starts,
-            i,
-        ) {
+        if is_unknown(t, list, n, objects, subjects_ix, subjects, words, starts, i) {
             return line_of(list, i);
         }
         i += 1;

@@ -5,9 +5,10 @@ use Prim.Native.Nat.{ℕ, _+_, _*_, _<_, _≤_}
 use native.Mathlib.Omega.{arith}
 use lib.ListN.{length, set, replicate, length-set, length-replicate}
 use Rattle.paper.specs.Limits.{textBytes, mostEntries, mostDomains, mostMembers}
+use Rattle.paper.specs.Listing.{subjectMembers}
 use Rattle.paper.specs.Page.{Field}
 use Rattle.paper.specs.Entries.{entriesOf}
-use Rattle.paper.specs.Rules.{overLimit, namedTwice, unknownName, unboundVariable, twinPrincipal}
+use Rattle.paper.specs.Rules.{overLimit, namedTwice, identifiersAt, unknownName, unboundVariable, twinPrincipal}
 use Rattle.file_fields.specs.Fields.{fieldSize, between, bytesTo}
 use Rattle.file_fields.specs.Listed.{mostFields}
 use Rattle.file_index.specs.Words.{multiplierAt, namesAt, nameSize}
@@ -86,3 +87,6 @@ module _ (fs : List Field) (names : Names) (once : names .twice ≡ 0) where
 
     pub functions-known : OfFunctions (names .functions) fs
     functions-known = record { counted = known once .of-functions .index .count; few = known once .of-functions .few }
+
+pub functions-few : (functions : ℕ) (fs : List Field) → OfFunctions functions fs → length (identifiersAt subjectMembers fs) ≤ mostMembers
+functions-few functions fs known = rw (← known .counted) (known .few)

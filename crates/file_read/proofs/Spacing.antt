@@ -108,7 +108,10 @@ module _ (v : List ℕ) where
   scalar-spaced SubjectIdentifier h = identifier-spaced Subject v h
   scalar-spaced ObjectIdentifier h = identifier-spaced Object v h
   scalar-spaced PatternElement h =
-      ⊎-elim (λ (a : is "all" v ≡ true). all-spaced v a) (λ (a : isIdentifier Subject v ≡ true). identifier-spaced Subject v a) (either-of (is "all" v) (isIdentifier Subject v) h)
+      ⊎-elim
+      (λ k. ⊎-elim (λ (a : is "all" v ≡ true). all-spaced v a) (λ (a : isIdentifier Subject v ≡ true). identifier-spaced Subject v a) (either-of (is "all" v) (isIdentifier Subject v) k))
+      (λ k. name-spaced v (both-left (isName v) _ k))
+      (either-of (is "all" v || isIdentifier Subject v) (isDomainName v) h)
 
   -- ---- a list, and any value
 

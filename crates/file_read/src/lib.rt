@@ -110,7 +110,6 @@ fn read_named(
         names.objects,
         subjects_ix,
         names.subjects,
-        names.functions,
         words,
         starts,
     );

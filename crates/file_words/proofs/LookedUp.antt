@@ -17,7 +17,7 @@ use Rattle.file_fields.proofs.Between.{each-field, names-more, names-none}
 use Rattle.file_fields.proofs.Laws.{bytes-more, bytes-fewer}
 use Rattle.file_fields.proofs.Valued.{elements-short}
 use Rattle.file_words.specs.declared.places.Sought.{Sought}
-use Rattle.file_words.specs.declared.places.Sought.the-variants.{Subject, Subjects, Objects, Functions, Nothing}
+use Rattle.file_words.specs.declared.places.Sought.the-variants.{Subject, Subjects, Objects, Elements, Nothing}
 use Rattle.file_words.specs.Looking.{soughtAt}
 use Rattle.file_words.specs.Words.{Numbers, wordsBy, fieldWords, wordsTo, Worded}
 
@@ -44,7 +44,7 @@ module _ (k : Numbers) where
   value-few Subject v = omega arith
   value-few Subjects v = rw length-map (elements-short v)
   value-few Objects v = rw length-map (elements-short v)
-  value-few Functions v = rw length-map (elements-short v)
+  value-few Elements v = rw length-map (elements-short v)
   value-few Nothing v = omega arith
 
   module _ (t list : List ℕ) where

@@ -9,7 +9,7 @@ use Rattle.paper.specs.Common.{anyOf}
 use Rattle.paper.specs.Entries.{callContexts}
 use Rattle.paper.specs.Rules.{subjectLists, objectLists}
 use Rattle.file_words.specs.Looking.{soughtAt}
-use Rattle.file_words.specs.declared.places.Sought.the-variants.{Subject, Subjects, Objects, Functions, Nothing}
+use Rattle.file_words.specs.declared.places.Sought.the-variants.{Subject, Subjects, Objects, Elements, Nothing}
 
 module _ (place : ℕ) where
   pub either-first : (one other : ℕ) → place ≡ one → true ≡ anyOf (eqb place) (one ∷ other ∷ [])
@@ -47,9 +47,9 @@ module _ (place : ℕ) where
       seeks-objects l = rw (ne-eqb place 9 h, lists-subjects, k, lists-objects, l) refl
 
       module _ (l : b ≡ false) (d : Bool) (g : d ≡ anyOf (eqb place) callContexts) where
-        pub seeks-functions : d ≡ true → Functions ≡ soughtAt place
+        pub seeks-elements : d ≡ true → Elements ≡ soughtAt place
         unfolding soughtAt
-        seeks-functions m = rw (ne-eqb place 9 h, lists-subjects, k, lists-objects, l, ← g, m) refl
+        seeks-elements m = rw (ne-eqb place 9 h, lists-subjects, k, lists-objects, l, ← g, m) refl
 
         pub seeks-nothing : d ≡ false → Nothing ≡ soughtAt place
         unfolding soughtAt

@@ -1,6 +1,6 @@
 -- The words of one field: by its place, over what stands between the brackets of its value.
 use mathlib.Core.Path.{_≡_, refl, sym, ap, _∙_}
-use mathlib.Core.Bool.{true, false}
+use mathlib.Core.Bool.{true}
 use mathlib.Core.List.{List, [], _++_, map}
 use Prim.Native.Nat.{ℕ, _≤_}
 use native.Mathlib.Omega.{arith}
@@ -10,9 +10,9 @@ use Rattle.file_fields.specs.Fields.{placeIn, valueIn, fieldAt, wellSpaced}
 use Rattle.file_fields.specs.Values.{insideOf}
 use Rattle.file_fields.proofs.Valued.{inside-elements, inside-spaced}
 use Rattle.file_words.specs.declared.places.Sought.{Sought}
-use Rattle.file_words.specs.declared.places.Sought.the-variants.{Subject, Subjects, Objects, Functions, Nothing}
+use Rattle.file_words.specs.declared.places.Sought.the-variants.{Subject, Subjects, Objects, Elements, Nothing}
 use Rattle.file_words.specs.Looking.{soughtAt}
-use Rattle.file_words.specs.Words.{Numbers, wordBy, wordsBy, fieldWords}
+use Rattle.file_words.specs.Words.{Numbers, elementWordBy, wordBy, wordsBy, fieldWords}
 
 -- as a field's own
 module _ (own : List ℕ) (word : List ℕ → ℕ) (s : List ℕ) (e : own ≡ map word (elementsIn s)) where
@@ -42,46 +42,48 @@ module _ (t list : List ℕ) (i : ℕ) (v s : List ℕ) (ev : v ≡ valueIn t li
     by-place = rw (ex, ep) refl
 
     module _ (h : x ≡ Subjects) where
-      of-subjects : fieldWords k (fieldAt t list i) ≡ map (wordBy false (k .subject)) (elementsIn s)
+      of-subjects : fieldWords k (fieldAt t list i) ≡ map (k .subject) (elementsIn s)
       unfolding wordsBy
       of-subjects = by-place ∙ rw (h, its-elements) refl
 
       pub subjects-room : (n : ℕ) → length (fieldWords k (fieldAt t list i)) ≤ n → length (elementsIn s) ≤ n
-      subjects-room = own-room (fieldWords k (fieldAt t list i)) (wordBy false (k .subject)) s of-subjects
+      subjects-room = own-room (fieldWords k (fieldAt t list i)) (k .subject) s of-subjects
 
       pub subjects-count : (r : ℕ) → r ≡ length (elementsIn s) → r ≡ length (fieldWords k (fieldAt t list i))
-      subjects-count = own-count (fieldWords k (fieldAt t list i)) (wordBy false (k .subject)) s of-subjects
+      subjects-count = own-count (fieldWords k (fieldAt t list i)) (k .subject) s of-subjects
 
-      pub subjects-written : (out rest : List ℕ) → out ≡ map (wordBy false (k .subject)) (elementsIn s) ++ rest → out ≡ fieldWords k (fieldAt t list i) ++ rest
-      subjects-written = own-written (fieldWords k (fieldAt t list i)) (wordBy false (k .subject)) s of-subjects
+      pub subjects-written : (out rest : List ℕ) → out ≡ map (k .subject) (elementsIn s) ++ rest → out ≡ fieldWords k (fieldAt t list i) ++ rest
+      subjects-written = own-written (fieldWords k (fieldAt t list i)) (k .subject) s of-subjects
 
     module _ (h : x ≡ Objects) where
-      of-objects : fieldWords k (fieldAt t list i) ≡ map (wordBy false (k .object)) (elementsIn s)
+      of-objects : fieldWords k (fieldAt t list i) ≡ map (k .object) (elementsIn s)
       unfolding wordsBy
       of-objects = by-place ∙ rw (h, its-elements) refl
 
       pub objects-room : (n : ℕ) → length (fieldWords k (fieldAt t list i)) ≤ n → length (elementsIn s) ≤ n
-      objects-room = own-room (fieldWords k (fieldAt t list i)) (wordBy false (k .object)) s of-objects
+      objects-room = own-room (fieldWords k (fieldAt t list i)) (k .object) s of-objects
 
       pub objects-count : (r : ℕ) → r ≡ length (elementsIn s) → r ≡ length (fieldWords k (fieldAt t list i))
-      objects-count = own-count (fieldWords k (fieldAt t list i)) (wordBy false (k .object)) s of-objects
+      objects-count = own-count (fieldWords k (fieldAt t list i)) (k .object) s of-objects
 
-      pub objects-written : (out rest : List ℕ) → out ≡ map (wordBy false (k .object)) (elementsIn s) ++ rest → out ≡ fieldWords k (fieldAt t list i) ++ rest
-      objects-written = own-written (fieldWords k (fieldAt t list i)) (wordBy false (k .object)) s of-objects
+      pub objects-written : (out rest : List ℕ) → out ≡ map (k .object) (elementsIn s) ++ rest → out ≡ fieldWords k (fieldAt t list i) ++ rest
+      objects-written = own-written (fieldWords k (fieldAt t list i)) (k .object) s of-objects
 
-    module _ (h : x ≡ Functions) where
-      of-functions : fieldWords k (fieldAt t list i) ≡ map (wordBy true (k .function)) (elementsIn s)
+    module _ (h : x ≡ Elements) where
+      of-elements : fieldWords k (fieldAt t list i) ≡ map (k .element) (elementsIn s)
       unfolding wordsBy
-      of-functions = by-place ∙ rw (h, its-elements) refl
+      of-elements = by-place ∙ rw (h, its-elements) refl
 
-      pub functions-room : (n : ℕ) → length (fieldWords k (fieldAt t list i)) ≤ n → length (elementsIn s) ≤ n
-      functions-room = own-room (fieldWords k (fieldAt t list i)) (wordBy true (k .function)) s of-functions
+      pub elements-room : (n : ℕ) → length (fieldWords k (fieldAt t list i)) ≤ n → length (elementsIn s) ≤ n
+      elements-room = own-room (fieldWords k (fieldAt t list i)) (k .element) s of-elements
 
-      pub functions-count : (r : ℕ) → r ≡ length (elementsIn s) → r ≡ length (fieldWords k (fieldAt t list i))
-      functions-count = own-count (fieldWords k (fieldAt t list i)) (wordBy true (k .function)) s of-functions
+      pub elements-count : (r : ℕ) → r ≡ length (elementsIn s) → r ≡ length (fieldWords k (fieldAt t list i))
+      elements-count = own-count (fieldWords k (fieldAt t list i)) (k .element) s of-elements
 
-      pub functions-written : (out rest : List ℕ) → out ≡ map (wordBy true (k .function)) (elementsIn s) ++ rest → out ≡ fieldWords k (fieldAt t list i) ++ rest
-      functions-written = own-written (fieldWords k (fieldAt t list i)) (wordBy true (k .function)) s of-functions
+      pub elements-written : (number : List ℕ → ℕ) (n : ℕ) (subject : List ℕ → ℕ) (out rest : List ℕ) → k .element ≡ elementWordBy number n subject
+          → out ≡ map (wordBy true number n subject) (elementsIn s) ++ rest → out ≡ fieldWords k (fieldAt t list i) ++ rest
+      unfolding wordBy
+      elements-written number n subject out rest e h = own-written (fieldWords k (fieldAt t list i)) (k .element) s of-elements out rest (rw e h)
 
     pub of-subject : x ≡ Subject → fieldWords k (fieldAt t list i) ≡ []
     unfolding wordsBy

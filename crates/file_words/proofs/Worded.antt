@@ -1,17 +1,23 @@
 -- The words of a field are the stretch between its start and the next one's; indexes of the maps number names as the file does.
 use mathlib.Core.Path.{_≡_, refl, ap, _∙_}
+use mathlib.Core.Bool.{Bool, true, false, cond}
 use mathlib.Core.List.{List, _++_, flatMap}
 use Prim.Native.Nat.{ℕ, _+_, _-_, _<_, _≤_}
 use native.Mathlib.Omega.{arith}
 use lib.ListN.{length, getD, take, drop, length-append, length-take}
-use Rattle.paper.specs.Common.{numberIn}
+use Rattle.paper.specs.Common.{is, among, numberIn}
+use Rattle.paper.specs.Listing.{objectName, subjectName, subjectMembers}
 use Rattle.paper.specs.Page.{Field}
+use Rattle.paper.specs.Rules.{domainsAt, identifiersAt}
+use Rattle.paper.specs.Policy.{all, fn, anyIn, elementOf}
+use Rattle.paper.specs.Table.{firstDomainWord, elementWord}
 use Rattle.laws.proofs.Stretches.{Stands, stands-left, stands-right, stands-taken, taken-stretch}
 use Rattle.file_fields.specs.Fields.{fieldAt, between}
 use Rattle.file_fields.proofs.Between.{names-more, names-split}
 use Rattle.file_index.specs.Buckets.{Index, numbersIn}
 use Rattle.file_index.specs.Maps.{Maps}
-use Rattle.file_words.specs.Words.{Numbers, numbersBy, numbersOf, fieldWords, wordsTo, wordsIn, Worded}
+use Rattle.file_index.proofs.Names.{among-number}
+use Rattle.file_words.specs.Words.{Numbers, elementWordBy, numbersBy, numbersOf, fieldWords, wordsTo, wordsIn, Worded}
 
 -- where a start lies behind the next one there are none
 pub none-between : (words : List ℕ) (start end : ℕ) → end < start → take 0 words ≡ take (end - start) (drop start words)
@@ -59,6 +65,16 @@ module _ (k : Numbers) (t list : List ℕ) (n : ℕ) (words starts : List ℕ) (
 
 -- ---- as the file numbers them
 
+-- a name is a function exactly when its number is below their count
+same-element : (F D : List (List ℕ)) (x : List ℕ) → elementWordBy (numberIn F) (length F) (numberIn D) x ≡ elementWord (elementOf F D x)
+unfolding elementWordBy elementOf elementWord
+same-element F D x = rw (← among-number x F) (go (is "all" x) (among x F))
+  where
+    go : (a b : Bool) → cond a 0 (cond b (numberIn F x + 1) (firstDomainWord + numberIn D x)) ≡ elementWord (cond a all (cond b (fn (numberIn F x)) (anyIn (numberIn D x))))
+    go true b = refl
+    go false true = refl
+    go false false = refl
+
 module _ (t : List ℕ) (file : List Field) (oix six fix : List ℕ) (o s f : ℕ) (maps : Maps t file oix six fix o s f) where
   same-number : (ix : List ℕ) (n : ℕ) (names : List (List ℕ)) → Index t ix n names → numbersIn t ix n ≡ numberIn names
   same-number ix n names index = λ i. λ x. index .knows x i
@@ -68,7 +84,12 @@ module _ (t : List ℕ) (file : List Field) (oix six fix : List ℕ) (o s f : �
     same-number oix o _ (maps .of-objects .index),
     same-number six s _ (maps .of-subjects .index),
     same-number fix f _ (maps .of-functions .index),
-  ) refl
+    maps .of-functions .index .count,
+  ) (λ i. record {
+    subject = numberIn (domainsAt subjectName file);
+    object = numberIn (domainsAt objectName file);
+    element = λ x. same-element (identifiersAt subjectMembers file) (domainsAt subjectName file) x i;
+  })
 
   pub worded-known : (list : List ℕ) (n : ℕ) (words starts : List ℕ)
       → Worded (numbersBy t oix o six s fix f) t list n words starts → Worded (numbersOf file) t list n words starts

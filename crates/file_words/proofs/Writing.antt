@@ -8,8 +8,10 @@ use mir.Syntax.{w64}
 use mir.Val.{Fits}
 use lib.ListN.{length, take, drop, set, length-map, length-set}
 use lib.Seq.{sets, sets-eq}
+use borrow.Author.Tests.{lt-ltb, le-ltb}
 use Rattle.paper.specs.Common.{is}
 use Rattle.paper.specs.Lists.{elementsIn}
+use Rattle.paper.specs.Table.{firstDomainWord}
 use Rattle.text_lists.specs.Walk.{firstElement, elementAt, elementsLeft, SpacedFrom}
 use Rattle.text_lists.specs.declared.Element.{Element}
 use Rattle.text_lists.specs.declared.Element.the-variants as element
@@ -18,34 +20,46 @@ use Rattle.file_index.specs.Buckets.{hashOf}
 use Rattle.file_words.specs.declared.Hashed.{Hashed}
 use Rattle.file_words.specs.declared.Hashed.the-variants.{Found, NoneLeft}
 use Rattle.file_words.specs.Hashed.{hashedBy, hashedAt}
-use Rattle.file_words.specs.Words.{wordBy}
+use Rattle.file_words.specs.Words.{elementWordBy, wordBy}
 
 -- ---- the word of a name
 
-module _ (pattern : Bool) (number : List ℕ → ℕ) (s : List ℕ) where
-  pub word-of-name : (k : ℕ) → not pattern ≡ true → k ≡ number s → k ≡ wordBy pattern number s
+module _ (function : List ℕ → ℕ) (functions : ℕ) (subject : List ℕ → ℕ) (s : List ℕ) (a : Bool) (p : a ≡ is "all" s) where
+  pub word-of-all : a ≡ true → 0 ≡ elementWordBy function functions subject s
+  unfolding elementWordBy
+  word-of-all l = rw (← p, l) refl
+
+  module _ (l : a ≡ false) (k : ℕ) (e : k ≡ function s) where
+    pub word-of-function : k < functions → k + 1 ≡ elementWordBy function functions subject s
+    unfolding elementWordBy
+    word-of-function h = rw (← p, l, ← e, lt-ltb k functions h) refl
+
+    pub word-of-domain : (d : ℕ) → functions ≤ k → d ≡ subject s → firstDomainWord + d ≡ elementWordBy function functions subject s
+    unfolding elementWordBy
+    word-of-domain d h f = rw (← p, l, ← e, le-ltb k functions h, f) refl
+
+module _ (pattern : Bool) (number : List ℕ → ℕ) (n : ℕ) (subject : List ℕ → ℕ) (s : List ℕ) (k : ℕ) where
+  pub word-of-name : not pattern ≡ true → k ≡ number s → k ≡ wordBy pattern number n subject s
   unfolding wordBy
-  word-of-name k h e = go pattern h
+  word-of-name h e = go pattern h
     where
-      go : (p : Bool) → not p ≡ true → k ≡ wordBy p number s
+      go : (p : Bool) → not p ≡ true → k ≡ wordBy p number n subject s
       go true z = cc
       go false z = e
 
-  module _ (h : not pattern ≡ false) (a : Bool) (p : a ≡ is "all" s) where
-    in-pattern : pattern ≡ true
-    in-pattern = go pattern h
-      where
-        go : (b : Bool) → not b ≡ false → b ≡ true
-        go true z = refl
-        go false z = cc
+  pub word-of-element : not pattern ≡ false → k ≡ elementWordBy number n subject s → k ≡ wordBy pattern number n subject s
+  unfolding wordBy
+  word-of-element h e = go pattern h
+    where
+      go : (p : Bool) → not p ≡ false → k ≡ wordBy p number n subject s
+      go true z = e
+      go false z = cc
 
-    pub word-of-all : a ≡ true → 0 ≡ wordBy pattern number s
-    unfolding wordBy
-    word-of-all l = rw (in-pattern, ← p, l) refl
-
-    pub word-of-function : (k : ℕ) → a ≡ false → k ≡ number s → k + 1 ≡ wordBy pattern number s
-    unfolding wordBy
-    word-of-function k l e = rw (in-pattern, ← p, l, e) refl
+-- in a list of domains the words are their numbers
+pub domains-written : (number : List ℕ → ℕ) (n : ℕ) (subject : List ℕ → ℕ) (xs : List (List ℕ)) (out rest : List ℕ)
+    → out ≡ map (wordBy false number n subject) xs ++ rest → out ≡ map number xs ++ rest
+unfolding wordBy
+domains-written number n subject xs out rest h = h
 
 -- ---- the walk, an element with its hash at a time
 

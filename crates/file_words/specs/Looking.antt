@@ -7,7 +7,7 @@ use Rattle.paper.specs.Listing.{subjectOfEntry}
 use Rattle.paper.specs.Entries.{callContexts}
 use Rattle.paper.specs.Rules.{subjectLists, objectLists}
 use Rattle.file_words.specs.declared.places.Sought.{Sought}
-use Rattle.file_words.specs.declared.places.Sought.the-variants.{Subject, Subjects, Objects, Functions, Nothing}
+use Rattle.file_words.specs.declared.places.Sought.the-variants.{Subject, Subjects, Objects, Elements, Nothing}
 
 -- by its place
 unfoldable pub soughtAt : ℕ → Sought
@@ -15,4 +15,4 @@ soughtAt place =
     cond (eqb place subjectOfEntry) Subject
     (cond (anyOf (eqb place) subjectLists) Subjects
     (cond (anyOf (eqb place) objectLists) Objects
-    (cond (anyOf (eqb place) callContexts) Functions Nothing)))
+    (cond (anyOf (eqb place) callContexts) Elements Nothing)))

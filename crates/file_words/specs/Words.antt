@@ -3,28 +3,45 @@ use Prim.Native.Nat.{ℕ, _+_, _-_, _<_, _≤_}
 use mathlib.Core.Path.{_≡_}
 use mathlib.Core.List.{List, [], map, flatMap}
 use mathlib.Core.Bool.{Bool, true, false, cond}
+use lib.Dec.{ltb}
 use lib.ListN.{length, getD, take, drop}
 use Rattle.paper.specs.Common.{is, numberIn}
 use Rattle.paper.specs.Lists.{elements}
 use Rattle.paper.specs.Listing.{objectName, subjectName, subjectMembers}
 use Rattle.paper.specs.Page.{Field}
 use Rattle.paper.specs.Rules.{domainsAt, identifiersAt}
+use Rattle.paper.specs.Policy.{elementOf}
+use Rattle.paper.specs.Table.{firstDomainWord, elementWord}
 use Rattle.file_fields.specs.Fields.{between}
 use Rattle.file_index.specs.Buckets.{numbersIn}
 use Rattle.file_words.specs.Looking.{soughtAt}
 use Rattle.file_words.specs.declared.places.Sought.{Sought}
-use Rattle.file_words.specs.declared.places.Sought.the-variants.{Subject, Subjects, Objects, Functions, Nothing}
+use Rattle.file_words.specs.declared.places.Sought.the-variants.{Subject, Subjects, Objects, Elements, Nothing}
 
--- what numbers the names of subject domains, object domains and functions
+-- the word of an element, by what numbers so many functions, and what the subject domains
+unfoldable pub elementWordBy : (List ℕ → ℕ) → ℕ → (List ℕ → ℕ) → List ℕ → ℕ
+elementWordBy function functions subject s =
+    cond (is "all" s) 0 (cond (ltb (function s) functions) (function s + 1) (firstDomainWord + subject s))
+
+-- the word of a name, in a pattern or in a list of domains
+unfoldable pub wordBy : Bool → (List ℕ → ℕ) → ℕ → (List ℕ → ℕ) → List ℕ → ℕ
+wordBy false number n subject s = number s
+wordBy true number n subject s = elementWordBy number n subject s
+
+-- what gives names their words: domains by their numbers, elements of patterns as the table has them
 pub record Numbers : Type 0 where
   pub subject : List ℕ → ℕ
   pub object : List ℕ → ℕ
-  pub function : List ℕ → ℕ
+  pub element : List ℕ → ℕ
 
 -- the indexes of the maps do
 abbrev pub numbersBy : List ℕ → List ℕ → ℕ → List ℕ → ℕ → List ℕ → ℕ → Numbers
 numbersBy t objectIx objects subjectIx subjects functionIx functions =
-    record { subject = numbersIn t subjectIx subjects; object = numbersIn t objectIx objects; function = numbersIn t functionIx functions }
+    record {
+      subject = numbersIn t subjectIx subjects;
+      object = numbersIn t objectIx objects;
+      element = elementWordBy (numbersIn t functionIx functions) functions (numbersIn t subjectIx subjects);
+    }
 
 -- the file does
 abbrev pub numbersOf : List Field → Numbers
@@ -32,20 +49,15 @@ numbersOf file =
     record {
       subject = numberIn (domainsAt subjectName file);
       object = numberIn (domainsAt objectName file);
-      function = numberIn (identifiersAt subjectMembers file);
+      element = λ s. elementWord (elementOf (identifiersAt subjectMembers file) (domainsAt subjectName file) s);
     }
-
--- the word of a name: its number; of an element of a pattern its number plus 1, and 0 of `all`
-unfoldable pub wordBy : Bool → (List ℕ → ℕ) → List ℕ → ℕ
-wordBy false number s = number s
-wordBy true number s = cond (is "all" s) 0 (number s + 1)
 
 -- the words of a value's names, by what they are looked up in. A subject alone is no list, and has none.
 unfoldable pub wordsBy : Numbers → Sought → List ℕ → List ℕ
 wordsBy k Subject v = []
-wordsBy k Subjects v = map (wordBy false (k .subject)) (elements v)
-wordsBy k Objects v = map (wordBy false (k .object)) (elements v)
-wordsBy k Functions v = map (wordBy true (k .function)) (elements v)
+wordsBy k Subjects v = map (k .subject) (elements v)
+wordsBy k Objects v = map (k .object) (elements v)
+wordsBy k Elements v = map (k .element) (elements v)
 wordsBy k Nothing v = []
 
 -- of a field's names

@@ -7,6 +7,8 @@ use file_fields::place_of;
 use file_fields::value_of;
 use file_fields::values::inside;
 use file_index::number_hashed;
+use file_index::number_in;
+use paper::element;
 use text_bytes::byte;
 use text_lists::is_all;
 ghost use mathlib.Core.Path.{_≡_};
@@ -21,7 +23,7 @@ ghost use Rattle.file_fields.specs.Fields.{fieldSize, fieldAt, between, wellSpa
 ghost use Rattle.file_index.specs.Words.{namesAt, nameSize, multiplierIn};
 ghost use Rattle.file_index.specs.Buckets.{hashOf, numbersIn};
 ghost use Rattle.file_words.specs.Hashed.{hashedAt};
-ghost use Rattle.file_words.specs.Words.{numbersBy, wordBy, fieldWords, wordsIn, Worded};
+ghost use Rattle.file_words.specs.Words.{numbersBy, elementWordBy, wordBy, fieldWords, wordsIn, Worded};
 
 // Room for the words of any text that is not too long, and for where each field's start.
 pub const WORDS: usize = 65536;
@@ -67,29 +69,73 @@ fn hashed_at(m: usize, s: &[u8], at: usize) -> Hashed
     }
 }
 
+// The word of an element whose hash is h: functions are looked up first, since most elements are.
+fn element_word(
+    t: &[u8],
+    functions_ix: &[usize],
+    functions: usize,
+    subjects_ix: &[usize],
+    subjects: usize,
+    h: usize,
+    name: &[u8],
+) -> u16
+    requires { ⌜ (namesAt + nameSize * functions ≤ length (now «functions_ix»)) × (functions ≤ mostMembers) ⌝ }
+    requires { ⌜ (namesAt + nameSize * subjects ≤ length (now «subjects_ix»)) × (subjects ≤ mostDomains) ⌝ }
+    requires { ⌜ h ≡ hashOf (multiplierIn (now «functions_ix»)) (now name) ⌝ }
+    ensures { λ r. ⌜ r ≡ elementWordBy (numbersIn (now (t .entry)) (now («functions_ix» .entry)) functions) functions
+        (numbersIn (now (t .entry)) (now («subjects_ix» .entry)) subjects) (now (name .entry)) ⌝ }
+{
+    if is_all(name) {
+        return element::ALL;
+    }
+    let number = number_hashed(t, functions_ix, functions, h, name);
+    if number < functions {
+        return (number + 1) as u16;
+    }
+    element::FIRST_DOMAIN + (number_in(t, subjects_ix, subjects, name) as u16)
+}
+
 // The word of a name whose hash is h, in a pattern or in a list of domains.
-fn word_of(t: &[u8], ix: &[usize], n: usize, pattern: bool, h: usize, name: &[u8]) -> u16
+fn word_of(
+    t: &[u8],
+    ix: &[usize],
+    n: usize,
+    subjects_ix: &[usize],
+    subjects: usize,
+    pattern: bool,
+    h: usize,
+    name: &[u8],
+) -> u16
     requires { ⌜ (namesAt + nameSize * n ≤ length (now ix)) × (n ≤ mostMembers) ⌝ }
+    requires { ⌜ (namesAt + nameSize * subjects ≤ length (now «subjects_ix»)) × (subjects ≤ mostDomains) ⌝ }
     requires { ⌜ h ≡ hashOf (multiplierIn (now ix)) (now name) ⌝ }
-    ensures { λ r. ⌜ r ≡ wordBy pattern (numbersIn (now (t .entry)) (now (ix .entry)) n) (now (name .entry)) ⌝ }
+    ensures { λ r. ⌜ r ≡ wordBy pattern (numbersIn (now (t .entry)) (now (ix .entry)) n) n
+        (numbersIn (now (t .entry)) (now («subjects_ix» .entry)) subjects) (now (name .entry)) ⌝ }
 {
     if !pattern {
         return number_hashed(t, ix, n, h, name) as u16;
     }
-    if is_all(name) {
-        return 0;
-    }
-    (number_hashed(t, ix, n, h, name) + 1) as u16
+    element_word(t, ix, n, subjects_ix, subjects, h, name)
 }
 
-// The words of the elements between a list's brackets: how many there are.
-fn write_words(t: &[u8], ix: &[usize], n: usize, pattern: bool, s: &[u8], out: &mut [u16]) -> usize
+// The words of the names between a list's brackets: how many there are.
+fn write_words(
+    t: &[u8],
+    ix: &[usize],
+    n: usize,
+    subjects_ix: &[usize],
+    subjects: usize,
+    pattern: bool,
+    s: &[u8],
+    out: &mut [u16],
+) -> usize
     requires { ⌜ (namesAt + nameSize * n ≤ length (now ix)) × (n ≤ mostMembers) ⌝ }
+    requires { ⌜ (namesAt + nameSize * subjects ≤ length (now «subjects_ix»)) × (subjects ≤ mostDomains) ⌝ }
     requires { ⌜ spaced 0 (now s) ≡ true ⌝ }
     requires { ⌜ length (elementsIn (now s)) ≤ length (now out) ⌝ }
     ensures { λ r. ⌜ r ≡ length (elementsIn (now (s .entry))) ⌝ }
-    ensures { λ r. ⌜ now (out .exit) ≡ map (wordBy pattern (numbersIn (now (t .entry)) (now (ix .entry)) n)) (elementsIn (now (s .entry)))
-        ++ drop r (now (out .entry)) ⌝ }
+    ensures { λ r. ⌜ now (out .exit) ≡ map (wordBy pattern (numbersIn (now (t .entry)) (now (ix .entry)) n) n
+        (numbersIn (now (t .entry)) (now («subjects_ix» .entry)) subjects)) (elementsIn (now (s .entry))) ++ drop r (now (out .entry)) ⌝ }
 {
     let m = ix[file_index::layout::MULTIPLIER_AT];
     let mut w: usize = 0;
@@ -98,12 +144,24 @@ fn write_words(t: &[u8], ix: &[usize], n: usize, pattern: bool, s: &[u8], out: &
         match hashed_at(m, s, at) {
             Hashed::NoneLeft => return w,
             Hashed::Found { end, next, hash } => {
-                out[w] = word_of(t, ix, n, pattern, hash, &s[at..end]);
+                let name = &s[at..end];
+                out[w] = word_of(t, ix, n, subjects_ix, subjects, pattern, hash, name);
                 w += 1;
                 at = next;
             }
         }
     }
+}
+
+// The words of the domains between a list's brackets: how many there are.
+fn domain_words(t: &[u8], ix: &[usize], n: usize, s: &[u8], out: &mut [u16]) -> usize
+    requires { ⌜ (namesAt + nameSize * n ≤ length (now ix)) × (n ≤ mostDomains) ⌝ }
+    requires { ⌜ spaced 0 (now s) ≡ true ⌝ }
+    requires { ⌜ length (elementsIn (now s)) ≤ length (now out) ⌝ }
+    ensures { λ r. ⌜ r ≡ length (elementsIn (now (s .entry))) ⌝ }
+    ensures { λ r. ⌜ now (out .exit) ≡ map (numbersIn (now (t .entry)) (now (ix .entry)) n) (elementsIn (now (s .entry))) ++ drop r (now (out .entry)) ⌝ }
+{
+    write_words(t, ix, n, ix, n, false, s, out)
 }
 
 // The words of field i's names: how many there are.
@@ -133,9 +191,18 @@ fn field_words(
 {
     let s = inside(value_of(t, list, i));
     match sought_at(place_of(list, i)) {
-        Sought::Subjects => write_words(t, subjects_ix, subjects, false, s, out),
-        Sought::Objects => write_words(t, objects_ix, objects, false, s, out),
-        Sought::Functions => write_words(t, functions_ix, functions, true, s, out),
+        Sought::Subjects => domain_words(t, subjects_ix, subjects, s, out),
+        Sought::Objects => domain_words(t, objects_ix, objects, s, out),
+        Sought::Elements => write_words(
+            t,
+            functions_ix,
+            functions,
+            subjects_ix,
+            subjects,
+            true,
+            s,
+            out,
+        ),
         Sought::Subject => 0,
         Sought::Nothing => 0,
     }

@@ -7,12 +7,12 @@ ghost use lib.Dec.{eqb};
 ghost use Rattle.paper.specs.Common.{anyOf};
 ghost use Rattle.file_words.specs.Looking.{soughtAt};
 
-// At a place stands one subject domain, a list of subject or object domains, or a pattern of functions.
+// At a place stands one subject domain, a list of subject or object domains, or the elements of a pattern.
 pub enum Sought {
     Subject,
     Subjects,
     Objects,
-    Functions,
+    Elements,
     Nothing,
 }
 
@@ -38,7 +38,7 @@ pub fn sought_at(place: usize) -> Sought
         return Sought::Objects;
     }
     if is_call_context(place) {
-        return Sought::Functions;
+        return Sought::Elements;
     }
     Sought::Nothing
 }

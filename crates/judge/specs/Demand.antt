@@ -38,7 +38,7 @@ pub record StaysInside (p : Policy) (a : Access) (m : Moment) : Type 0 where
 -- an entry "that matches subject, stack, uid and gid grants it"
 pub record MatchesAndGrants (p : Policy) (a : Access) (m allocation : Moment) (e : Entry) : Type 0 where
   pub subject : topLiesIn p (e .subject) (m .stack) ≡ true
-  pub stack : matches (e .context .pattern) (m .stack) ≡ true
+  pub stack : matches (p .functions) (e .context .pattern) (m .stack) ≡ true
   pub uid : sortFits (e .context .uid) (m .uid) ≡ true
   pub gid : sortFits (e .context .gid) (m .gid) ≡ true
   pub grants : entryGrants p e a m allocation ≡ true

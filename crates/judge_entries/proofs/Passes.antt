@@ -187,7 +187,7 @@ module _ (ws s : List ℕ) (event : Event) where
   data-granted :
       (a : Access) (m allocation : Moment) (k : ℕ) → isCode a ≡ false
       → entryGrants (policyIn ws) (entryIn ws k) a m allocation
-      ≡ someDescriptorGrants
+      ≡ someDescriptorGrants (policyIn ws)
       (map (descriptorIn ws) (countUp (firstDescriptor ws k + cond (isWrite a) (readCount ws k) 0) (cond (isWrite a) (writeCount ws k) (readCount ws k))))
       (targetDomain (policyIn ws) a) m allocation
   unfolding isCode isWrite entryGrants entryIn
@@ -199,7 +199,7 @@ module _ (ws s : List ℕ) (event : Event) where
   pub descriptors-grant :
       (al : List ℕ) (k at first reads writes before these : ℕ) (w r : Bool) → isCode (event .access) ≡ false → event .target ≡ targetDomain (policyIn ws) (event .access) → at ≡ entryAt k
       → first ≡ firstDescriptor ws k → reads ≡ word ws (at + readsAt) → writes ≡ word ws (at + writesAt) → w ≡ isWrite (event .access) → before ≡ cond w reads 0 → these ≡ cond w writes reads
-      → r ≡ someDescriptorGrants (map (descriptorIn ws) (countUp (first + before) these)) (event .target) (binding event) (allocationOf al event) → r ≡ grantsAt (allocationOf al event) k
+      → r ≡ someDescriptorGrants (policyIn ws) (map (descriptorIn ws) (countUp (first + before) these)) (event .target) (binding event) (allocationOf al event) → r ≡ grantsAt (allocationOf al event) k
   descriptors-grant al k at first reads writes before these w r d t e f p q g x y told =
       rw (data-granted (event .access) (binding event) (allocationOf al event) k d, ← e, ← f, ← p, ← q, ← g, ← x, ← y, ← t) told
 

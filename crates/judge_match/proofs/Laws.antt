@@ -11,9 +11,9 @@ use lib.Seq.{take-all}
 use borrow.Author.Tests.{eq-eqb, ne-eqb, lt-ltb}
 use Rattle.paper.specs.Common.{allOf, anyOf, countUp}
 use Rattle.paper.specs.Scalars.{sortNumber}
-use Rattle.paper.specs.Table.{setAt, uidAt, gidAt, everyWord, variableWord, subjectAt, grantAt, entryAt, descriptorAt, word, objectDomainCount, patternWordsIn}
+use Rattle.paper.specs.Table.{setAt, uidAt, gidAt, everyWord, variableWord, subjectAt, grantAt, entryAt, descriptorAt, word, objectDomainCount, patternWordsIn, functionDomainsIn}
 use Rattle.paper.specs.Table.{elementIn, sortIn, contextIn, isIn, grantIn, descriptorIn, entryIn, policyIn}
-use Rattle.paper.specs.Match.{matches, topLiesIn, sortFits, allocatedSortFits, entryMatches, isAll, isAnyone, fitsStatic, fitsAllocated, contextFitsObject, grants}
+use Rattle.paper.specs.Match.{liesIn, matches, topLiesIn, sortFits, allocatedSortFits, entryMatches, isAll, isAnyone, fitsStatic, fitsAllocated, contextFitsObject, grants}
 use Rattle.paper.specs.Match.{descriptorGrants}
 use Rattle.laws.proofs.Counting.{length-map-counted, getD-counted, counted-step, counted-end}
 use Rattle.laws.proofs.Chains.{tested-false, tested-true, is-equal, is-other}
@@ -61,7 +61,7 @@ anyone-is-zero (suc (suc (suc k))) = sym (ne-eqb (suc (suc (suc k))) 0 (λ (h : 
 
 module _ (ws s : List ℕ) (event : Event) (placed : Placed ws s event) where
   top-lies-in : (domain : ℕ) → topLiesIn (policyIn ws) domain s ≡ eqb (event .subject) domain
-  unfolding topLiesIn policyIn
+  unfolding topLiesIn liesIn policyIn
   top-lies-in domain = rw (ne-eqb _ 0 (placed .some), lt-ltb _ _ (placed .listed), placed .subject)
 
   module _ (k at : ℕ) (stands : at ≡ entryAt k) where
@@ -81,11 +81,12 @@ module _ (ws s : List ℕ) (event : Event) (placed : Placed ws s event) where
     other-gid w r e h n = rw (← stands, ← e) (simp (tested-false _ r h n, and-false))
 
     pub pattern-decides :
-        (w u g : ℕ) (p : List ℕ) (a b r : Bool) → w ≡ word ws (at + subjectAt) → w ≡ event .subject → u ≡ word ws (at + uidAt) → a ≡ sortFits (sortIn u) (event .ids .uid) → not a ≡ false
-        → g ≡ word ws (at + gidAt) → b ≡ sortFits (sortIn g) (event .ids .gid) → not b ≡ false → p ≡ patternWordsIn ws at → r ≡ matches (map elementIn p) s → r ≡ entryMatchesHere
-    unfolding entryMatches entryIn contextIn
-    pattern-decides w u g p a b r e q f h n f′ h′ n′ z y =
-        rw (← stands, ← e, top-lies-in w, eq-eqb (event .subject) w (sym q), ← f, tested-true _ a h n, ← f′, tested-true _ b h′ n′, ← z, ← y, and-true, and-true)
+        (w u g : ℕ) (F p : List ℕ) (a b r : Bool) → w ≡ word ws (at + subjectAt) → w ≡ event .subject → u ≡ word ws (at + uidAt) → a ≡ sortFits (sortIn u) (event .ids .uid) → not a ≡ false
+        → g ≡ word ws (at + gidAt) → b ≡ sortFits (sortIn g) (event .ids .gid) → not b ≡ false → F ≡ functionDomainsIn ws → p ≡ patternWordsIn ws at
+        → r ≡ matches F (map elementIn p) s → r ≡ entryMatchesHere
+    unfolding entryMatches entryIn contextIn policyIn
+    pattern-decides w u g F p a b r e q f h n f′ h′ n′ x z y =
+        rw (← stands, ← e, top-lies-in w, eq-eqb (event .subject) w (sym q), ← f, tested-true _ a h n, ← f′, tested-true _ b h′ n′, ← x, ← z, ← y, and-true, and-true)
 
 -- ---- a context fits an object
 
@@ -107,30 +108,31 @@ module _ (ws : List ℕ) (at : ℕ) where
   module _ (event : Event) (al : List ℕ) where
     pub allocated-uid :
         (u : ℕ) (r : Bool) → u ≡ word ws (at + uidAt) → r ≡ allocatedSortFits (sortIn u) (event .ids .uid) (event .allocated .uid) → not r ≡ true
-        → false ≡ fitsAllocated (contextIn ws at) (binding event) (allocationOf al event)
+        → false ≡ fitsAllocated (policyIn ws) (contextIn ws at) (binding event) (allocationOf al event)
     unfolding fitsAllocated contextIn
     allocated-uid u r e h n = rw (← e) (simp (tested-false _ r h n, and-false))
 
     pub allocated-gid :
         (g : ℕ) (r : Bool) → g ≡ word ws (at + gidAt) → r ≡ allocatedSortFits (sortIn g) (event .ids .gid) (event .allocated .gid) → not r ≡ true
-        → false ≡ fitsAllocated (contextIn ws at) (binding event) (allocationOf al event)
+        → false ≡ fitsAllocated (policyIn ws) (contextIn ws at) (binding event) (allocationOf al event)
     unfolding fitsAllocated contextIn
     allocated-gid g r e h n = rw (← e) (simp (tested-false _ r h n, and-false))
 
     pub allocated-pattern-decides :
-        (u g : ℕ) (p : List ℕ) (a b r : Bool) → u ≡ word ws (at + uidAt) → a ≡ allocatedSortFits (sortIn u) (event .ids .uid) (event .allocated .uid) → not a ≡ false
-        → g ≡ word ws (at + gidAt) → b ≡ allocatedSortFits (sortIn g) (event .ids .gid) (event .allocated .gid) → not b ≡ false → p ≡ patternWordsIn ws at → r ≡ matches (map elementIn p) al
-        → r ≡ fitsAllocated (contextIn ws at) (binding event) (allocationOf al event)
-    unfolding fitsAllocated contextIn
-    allocated-pattern-decides u g p a b r f h n f′ h′ n′ z y = rw (← f, tested-true _ a h n, ← f′, tested-true _ b h′ n′, ← z, ← y, and-true, and-true)
+        (u g : ℕ) (F p : List ℕ) (a b r : Bool) → u ≡ word ws (at + uidAt) → a ≡ allocatedSortFits (sortIn u) (event .ids .uid) (event .allocated .uid) → not a ≡ false
+        → g ≡ word ws (at + gidAt) → b ≡ allocatedSortFits (sortIn g) (event .ids .gid) (event .allocated .gid) → not b ≡ false → F ≡ functionDomainsIn ws → p ≡ patternWordsIn ws at
+        → r ≡ matches F (map elementIn p) al
+        → r ≡ fitsAllocated (policyIn ws) (contextIn ws at) (binding event) (allocationOf al event)
+    unfolding fitsAllocated contextIn policyIn
+    allocated-pattern-decides u g F p a b r f h n f′ h′ n′ x z y = rw (← f, tested-true _ a h n, ← f′, tested-true _ b h′ n′, ← x, ← z, ← y, and-true, and-true)
 
-    pub static-object : (r : Bool) → length al ≡ 0 → r ≡ fitsStatic (contextIn ws at) → r ≡ contextFitsObject (contextIn ws at) (binding event) (allocationOf al event)
+    pub static-object : (r : Bool) → length al ≡ 0 → r ≡ fitsStatic (contextIn ws at) → r ≡ contextFitsObject (policyIn ws) (contextIn ws at) (binding event) (allocationOf al event)
     unfolding contextFitsObject
     static-object r h e = rw (eq-eqb (length al) 0 h) e
 
     pub allocated-object :
-        (r : Bool) → (length al ≡ 0 → ⊥) → r ≡ fitsAllocated (contextIn ws at) (binding event) (allocationOf al event)
-        → r ≡ contextFitsObject (contextIn ws at) (binding event) (allocationOf al event)
+        (r : Bool) → (length al ≡ 0 → ⊥) → r ≡ fitsAllocated (policyIn ws) (contextIn ws at) (binding event) (allocationOf al event)
+        → r ≡ contextFitsObject (policyIn ws) (contextIn ws at) (binding event) (allocationOf al event)
     unfolding contextFitsObject
     allocated-object r h e = rw (ne-eqb (length al) 0 h) e
 
@@ -159,13 +161,13 @@ module _ (ws : List ℕ) (at domains d w : ℕ) (read : w ≡ word ws at) where
 
 module _ (ws al : List ℕ) (event : Event) (d at n : ℕ) (b : Bool) (stands : at ≡ descriptorAt d) (counted : n ≡ objectDomainCount ws)
     (told : b ≡ grants (grantIn ws (at + grantAt) n) (event .target)) where
-  pub target-not-granted : not b ≡ true → false ≡ descriptorGrants (event .target) (binding event) (allocationOf al event) (descriptorIn ws d)
+  pub target-not-granted : not b ≡ true → false ≡ descriptorGrants (policyIn ws) (event .target) (binding event) (allocationOf al event) (descriptorIn ws d)
   unfolding descriptorGrants descriptorIn
   target-not-granted h = rw (← stands, ← counted, tested-false _ b told h)
 
   pub context-decides :
-      (r : Bool) → not b ≡ false → r ≡ contextFitsObject (contextIn ws at) (binding event) (allocationOf al event)
-      → r ≡ descriptorGrants (event .target) (binding event) (allocationOf al event) (descriptorIn ws d)
+      (r : Bool) → not b ≡ false → r ≡ contextFitsObject (policyIn ws) (contextIn ws at) (binding event) (allocationOf al event)
+      → r ≡ descriptorGrants (policyIn ws) (event .target) (binding event) (allocationOf al event) (descriptorIn ws d)
   unfolding descriptorGrants descriptorIn
   context-decides r h q = rw (← stands, ← counted, tested-true _ b told h) q
 

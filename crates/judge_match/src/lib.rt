@@ -65,7 +65,7 @@ pub fn entry_matches(t: &[u16], k: usize, event: Event, stack: &[u16]) -> bool
     if !sort_fits(table::word(t, at + layout::GID_AT), event.ids.gid) {
         return false;
     }
-    judge_pattern::matches_stack(table::pattern_at(t, at), stack)
+    judge_pattern::matches_stack(table::functions(t), table::pattern_at(t, at), stack)
 }
 
 // Only `all` everywhere fits a static object.
@@ -84,7 +84,7 @@ fn fits_static(t: &[u16], at: usize) -> bool
 
 fn fits_allocated(t: &[u16], at: usize, event: Event, allocation: &[u16]) -> bool
     requires { ⌜ at ≤ reach ⌝ }
-    ensures { λ r. ⌜ r ≡ fitsAllocated (contextIn (now (t .entry)) at) (binding event) (allocationOf (now (allocation .entry)) event) ⌝ }
+    ensures { λ r. ⌜ r ≡ fitsAllocated (policyIn (now (t .entry))) (contextIn (now (t .entry)) at) (binding event) (allocationOf (now (allocation .entry)) event) ⌝ }
 {
     let ids = event.ids;
     let allocated = event.allocated;
@@ -94,12 +94,12 @@ fn fits_allocated(t: &[u16], at: usize, event: Event, allocation: &[u16]) -> boo
     if !allocated_sort_fits(table::word(t, at + layout::GID_AT), ids.gid, allocated.gid) {
         return false;
     }
-    judge_pattern::matches_stack(table::pattern_at(t, at), allocation)
+    judge_pattern::matches_stack(table::functions(t), table::pattern_at(t, at), allocation)
 }
 
 fn context_fits_object(t: &[u16], at: usize, event: Event, allocation: &[u16]) -> bool
     requires { ⌜ at ≤ reach ⌝ }
-    ensures { λ r. ⌜ r ≡ contextFitsObject (contextIn (now (t .entry)) at) (binding event) (allocationOf (now (allocation .entry)) event) ⌝ }
+    ensures { λ r. ⌜ r ≡ contextFitsObject (policyIn (now (t .entry))) (contextIn (now (t .entry)) at) (binding event) (allocationOf (now (allocation .entry)) event) ⌝ }
 {
     if allocation.len() == 0 {
         return fits_static(t, at);
@@ -123,7 +123,7 @@ pub fn grant_holds(t: &[u16], at: usize, domains: usize, d: usize) -> bool
 
 fn descriptor_grants(t: &[u16], d: usize, event: Event, allocation: &[u16]) -> bool
     requires { ⌜ descriptorAt (d + 1) ≤ reach ⌝ }
-    ensures { λ r. ⌜ r ≡ descriptorGrants (event .target) (binding event) (allocationOf (now (allocation .entry)) event) (descriptorIn (now (t .entry)) d) ⌝ }
+    ensures { λ r. ⌜ r ≡ descriptorGrants (policyIn (now (t .entry))) (event .target) (binding event) (allocationOf (now (allocation .entry)) event) (descriptorIn (now (t .entry)) d) ⌝ }
 {
     let at = layout::descriptor_at(d);
     let domains = table::count(t, layout::OBJECT_DOMAIN_COUNT_AT);
@@ -142,7 +142,8 @@ pub fn some_descriptor_grants(
     allocation: &[u16],
 ) -> bool
     requires { ⌜ descriptorAt (first + n) ≤ reach ⌝ }
-    ensures { λ r. ⌜ r ≡ someDescriptorGrants (map (descriptorIn (now (t .entry))) (countUp first n)) (event .target) (binding event) (allocationOf (now (allocation .entry)) event) ⌝ }
+    ensures { λ r. ⌜ r ≡ someDescriptorGrants (policyIn (now (t .entry))) (map (descriptorIn (now (t .entry))) (countUp first n))
+        (event .target) (binding event) (allocationOf (now (allocation .entry)) event) ⌝ }
 {
     let mut i: usize = 0;
     while i < n {

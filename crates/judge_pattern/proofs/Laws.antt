@@ -2,45 +2,64 @@
 use Prim.Native.Nat.{ℕ, _+_, _-_, _<_, _≤_}
 use native.Mathlib.Omega.{arith}
 use mathlib.Core.Path.{_≡_, refl, sym, _∙_}
-use mathlib.Core.Bool.{Bool, true, false}
+use mathlib.Core.Bool.{Bool, true, false, not}
 use mathlib.Core.List.{List, map}
+use Rattle.paper.specs.Policy.{Element}
 use lib.ListN.{length, drop, getD, drop-of-length-le}
-use borrow.Author.Tests.{eq-eqb, ne-eqb}
+use lib.Dec.{eqb}
+use borrow.Author.Tests.{lt-ltb, le-ltb}
 use Rattle.paper.specs.Common.{allOf}
-use Rattle.paper.specs.Table.{elementIn}
-use Rattle.paper.specs.Match.{swallowing, firstEquals, matches, isAll}
+use Rattle.paper.specs.Table.{firstDomainWord, elementIn}
+use Rattle.paper.specs.Match.{liesIn, swallowing, firstMeets, matches, isAll}
+use Rattle.laws.specs.Frames.{meetsFrame}
 use Rattle.laws.proofs.Places.{drop-more}
-use Rattle.laws.proofs.Elements.{at-all, at-fn, at-end}
+use Rattle.laws.proofs.Chains.{tested-false, tested-true}
+use Rattle.laws.proofs.Elements.{empty-refuses, all-takes, word-function, word-domain, word-single, at-element, at-all, at-single, at-end}
 use Rattle.judge_pattern.specs.Run.{matchesFrom, matchesLater, FitsToAll, Says}
 use Rattle.judge_pattern.specs.declared.Run.{Run}
 use Rattle.judge_pattern.specs.declared.Run.the-variants.{Match, Fail, Never, All}
-use Rattle.judge_pattern.proofs.Lists.{empty-refuses, all-takes, all-refuses, all-swallows, all-alone, all-twice, fn-refuses, fn-at-end}
+use Rattle.judge_pattern.proofs.Lists.{all-refuses, all-swallows, all-alone, all-twice, later-at-end, later-refuses}
+
+-- ---- an element that is not `all`, and a frame
+
+module _ (F : List ℕ) (w x : ℕ) where
+  pub function-decides : (w ≡ 0 → ⊥) → w < firstDomainWord → eqb (w - 1) x ≡ meetsFrame F (elementIn w) x
+  unfolding meetsFrame
+  function-decides n h = rw (word-function w n h)
+
+  pub unlisted-in-none : firstDomainWord ≤ w → length F ≤ x → false ≡ meetsFrame F (elementIn w) x
+  unfolding meetsFrame liesIn
+  unlisted-in-none h l = rw (word-domain w h, le-ltb x (length F) l)
+
+  pub domain-decides : firstDomainWord ≤ w → x < length F → eqb (getD F x 0) (w - firstDomainWord) ≡ meetsFrame F (elementIn w) x
+  unfolding meetsFrame liesIn
+  domain-decides h l = rw (word-domain w h, lt-ltb x (length F) l)
 
 -- ---- a run up to an `all`
 
--- functions from places i and j on fit up to places a and b
-pub record Fits (p : List ℕ) (i : ℕ) (s : List ℕ) (j a b : ℕ) : Type 0 where
+-- elements from places i and j on fit up to places a and b
+pub record Fits (F p : List ℕ) (i : ℕ) (s : List ℕ) (j a b : ℕ) : Type 0 where
   pub further : i ≤ a
   pub inPattern : a ≤ length p
   pub notBack : j ≤ b
   pub inStack : b ≤ length s
-  pub decides : matchesFrom p i s j ≡ matchesFrom p a s b
-  pub never : matchesLater p a s b ≡ false → matchesLater p i s j ≡ false
+  pub decides : matchesFrom F p i s j ≡ matchesFrom F p a s b
+  pub never : matchesLater F p a s b ≡ false → matchesLater F p i s j ≡ false
 
-module _ (p : List ℕ) (i : ℕ) (s : List ℕ) (j : ℕ) where
-  pub fits-nothing : i ≤ length p → j ≤ length s → Fits p i s j i j
+module _ (F p : List ℕ) (i : ℕ) (s : List ℕ) (j : ℕ) where
+  pub fits-nothing : i ≤ length p → j ≤ length s → Fits F p i s j i j
   fits-nothing h k =
       record { further = omega arith; inPattern = h; notBack = omega arith; inStack = k; decides = refl; never = λ e. e }
 
-  module _ (a b : ℕ) (fits : Fits p i s j a b) where
-    fits-all : a < length p → getD p a 0 ≡ 0 → matchesLater p i s j ≡ matchesLater p (a + 1) s b
-    fits-all h e = go (matchesLater p (a + 1) s b) refl
+  module _ (a b : ℕ) (fits : Fits F p i s j a b) where
+    fits-all : a < length p → getD p a 0 ≡ 0 → matchesLater F p i s j ≡ matchesLater F p (a + 1) s b
+    fits-all h e = go (matchesLater F p (a + 1) s b) refl
       where
-        go : (t : Bool) → matchesLater p (a + 1) s b ≡ t → matchesLater p i s j ≡ t
-        go true k = all-takes (map elementIn (drop i p)) (drop j s) (fits .decides ∙ rw (at-all p a h e) k)
-        go false k = fits .never (rw (at-all p a h e) (all-twice (map elementIn (drop (a + 1) p)) (drop b s) k))
+        go : (t : Bool) → matchesLater F p (a + 1) s b ≡ t → matchesLater F p i s j ≡ t
+        go true k = all-takes F (map elementIn (drop i p)) (drop j s) (fits .decides ∙ rw (at-all p a h e) k)
+        go false k = fits .never (rw (at-all p a h e) (all-twice F (map elementIn (drop (a + 1) p)) (drop b s) k))
 
-    pub reaches-all : a < length p → getD p a 0 ≡ 0 → Says (All (a + 1) b) p i s j
+    pub reaches-all : a < length p → getD p a 0 ≡ 0 → Says (All (a + 1) b) F p i s j
     reaches-all h e =
         record {
           further = omega arith;
@@ -51,43 +70,52 @@ module _ (p : List ℕ) (i : ℕ) (s : List ℕ) (j : ℕ) where
           decidesLater = fits-all h e;
         }
 
-    pub frames-end : a < length p → (getD p a 0 ≡ 0 → ⊥) → b ≡ length s → Says Never p i s j
-    frames-end h n k =
-        let l : length s ≤ b = omega arith in
-        fits .never (rw (at-fn p a h n, drop-of-length-le s l) (fn-at-end (getD p a 0 - 1) (map elementIn (drop (a + 1) p))))
-
-    pub frame-differs : a < length p → (getD p a 0 ≡ 0 → ⊥) → (b ≡ length s → ⊥) → (getD p a 0 - 1 ≡ getD s b 0 → ⊥) → Says Fail p i s j
-    unfolding matches firstEquals
-    frame-differs h n k d =
-        let l : b < length s = omega arith in
-        fits .decides ∙ rw (at-fn p a h n, drop-more s b l, ne-eqb (getD p a 0 - 1) (getD s b 0) d)
-
-    pub frame-fits : a < length p → (getD p a 0 ≡ 0 → ⊥) → (b ≡ length s → ⊥) → getD p a 0 - 1 ≡ getD s b 0 → Fits p i s j (a + 1) (b + 1)
-    unfolding matches firstEquals
-    frame-fits h n k e =
-        let l : b < length s = omega arith in
-        record {
-          further = omega arith;
-          inPattern = omega arith;
-          notBack = omega arith;
-          inStack = omega arith;
-          decides = fits .decides ∙ rw (at-fn p a h n, drop-more s b l, eq-eqb (getD p a 0 - 1) (getD s b 0) e) refl;
-          never = λ m. fits .never (rw (at-fn p a h n, drop-more s b l) (fn-refuses (getD p a 0 - 1) (getD s b 0) (map elementIn (drop (a + 1) p)) (drop (b + 1) s) m));
-        }
-
-    pub both-end : length p ≤ a → b ≡ length s → Says Match p i s j
+    pub both-end : length p ≤ a → b ≡ length s → Says Match F p i s j
     unfolding matches
     both-end h k = let l : length s ≤ b = omega arith in fits .decides ∙ rw (at-end p a h, drop-of-length-le s l)
 
-    pub frames-left : length p ≤ a → (b ≡ length s → ⊥) → Says Fail p i s j
+    pub frames-left : length p ≤ a → (b ≡ length s → ⊥) → Says Fail F p i s j
     frames-left h k =
         let l : b < length s = omega arith in
-        fits .decides ∙ rw (at-end p a h, drop-more s b l) (empty-refuses (getD s b 0) (drop (b + 1) s))
+        fits .decides ∙ rw (at-end p a h, drop-more s b l) (empty-refuses F (getD s b 0) (drop (b + 1) s))
+
+    -- at an element that is not `all`
+    module _ (h : a < length p) (n : getD p a 0 ≡ 0 → ⊥) where
+      abbrev one : Element
+      one = elementIn (getD p a 0)
+
+      abbrev rest : List Element
+      rest = map elementIn (drop (a + 1) p)
+
+      pub frames-end : b ≡ length s → Says Never F p i s j
+      frames-end k =
+          let l : length s ≤ b = omega arith in
+          fits .never (rw (at-element p a h, drop-of-length-le s l) (later-at-end F one (word-single (getD p a 0) n) rest))
+
+      module _ (k : b ≡ length s → ⊥) (r : Bool) (told : r ≡ meetsFrame F one (getD s b 0)) where
+        pub frame-differs : not r ≡ true → Says Fail F p i s j
+        unfolding firstMeets
+        frame-differs d =
+            let l : b < length s = omega arith in
+            fits .decides ∙ (at-single p a F (drop b s) h n ∙ rw (drop-more s b l, tested-false _ r told d))
+
+        pub frame-fits : not r ≡ false → Fits F p i s j (a + 1) (b + 1)
+        unfolding firstMeets
+        frame-fits d =
+            let l : b < length s = omega arith in
+            record {
+              further = omega arith;
+              inPattern = omega arith;
+              notBack = omega arith;
+              inStack = omega arith;
+              decides = fits .decides ∙ (at-single p a F (drop b s) h n ∙ rw (drop-more s b l, tested-true _ r told d));
+              never = λ m. fits .never (rw (at-element p a h, drop-more s b l) (later-refuses F one (word-single (getD p a 0) n) rest (getD s b 0) (drop (b + 1) s) m));
+            }
 
 -- ---- the places that a run up to an `all` leaves
 
-module _ (p : List ℕ) (i : ℕ) (s : List ℕ) (j : ℕ) (r : Run) (says : Says r p i s j) (a b : ℕ) (e : r ≡ All a b) where
-  fits-to-all : FitsToAll p i s j a b
+module _ (F p : List ℕ) (i : ℕ) (s : List ℕ) (j : ℕ) (r : Run) (says : Says r F p i s j) (a b : ℕ) (e : r ≡ All a b) where
+  fits-to-all : FitsToAll F p i s j a b
   fits-to-all = rw e at says
 
   pub rest-in-pattern : a ≤ length p
@@ -98,56 +126,56 @@ module _ (p : List ℕ) (i : ℕ) (s : List ℕ) (j : ℕ) (r : Run) (says : Say
 
 -- ---- the frames that an `all` may swallow
 
-module _ (p : List ℕ) (i : ℕ) (s : List ℕ) (j : ℕ) where
-  pub none-swallowed : matchesLater p i s j ≡ matchesLater p i s (j + 0)
+module _ (F p : List ℕ) (i : ℕ) (s : List ℕ) (j : ℕ) where
+  pub none-swallowed : matchesLater F p i s j ≡ matchesLater F p i s (j + 0)
   none-swallowed = let e : j + 0 ≡ j = omega arith in rw e
 
-  pub last-all : i ≡ length p → true ≡ matchesLater p i s j
-  last-all h = let l : length p ≤ i = omega arith in sym (rw (at-end p i l) (all-alone (drop j s)))
+  pub last-all : i ≡ length p → true ≡ matchesLater F p i s j
+  last-all h = let l : length p ≤ i = omega arith in sym (rw (at-end p i l) (all-alone F (drop j s)))
 
 -- it has swallowed n frames in vain
-module _ (p : List ℕ) (i : ℕ) (s : List ℕ) (j n : ℕ) (vain : matchesLater p i s j ≡ matchesLater p i s (j + n)) (r : Run) (says : Says r p i s (j + n)) where
-  pub walk-matches : r ≡ Match → true ≡ matchesLater p i s j
-  walk-matches e = sym (vain ∙ all-takes (map elementIn (drop i p)) (drop (j + n) s) (rw e at says))
+module _ (F p : List ℕ) (i : ℕ) (s : List ℕ) (j n : ℕ) (vain : matchesLater F p i s j ≡ matchesLater F p i s (j + n)) (r : Run) (says : Says r F p i s (j + n)) where
+  pub walk-matches : r ≡ Match → true ≡ matchesLater F p i s j
+  walk-matches e = sym (vain ∙ all-takes F (map elementIn (drop i p)) (drop (j + n) s) (rw e at says))
 
-  pub walk-never : r ≡ Never → false ≡ matchesLater p i s j
+  pub walk-never : r ≡ Never → false ≡ matchesLater F p i s j
   walk-never e = sym (vain ∙ (rw e at says))
 
-  pub walk-ends : r ≡ Fail → j + n ≡ length s → false ≡ matchesLater p i s j
+  pub walk-ends : r ≡ Fail → j + n ≡ length s → false ≡ matchesLater F p i s j
   unfolding matches swallowing
   walk-ends e k =
       let l : length s ≤ j + n = omega arith in
       sym (vain ∙ rw (drop-of-length-le s l) (rw (drop-of-length-le s l) at (rw e at says)))
 
-  pub walk-swallows : r ≡ Fail → j + n ≤ length s → (j + n ≡ length s → ⊥) → matchesLater p i s j ≡ matchesLater p i s (j + (n + 1))
+  pub walk-swallows : r ≡ Fail → j + n ≤ length s → (j + n ≡ length s → ⊥) → matchesLater F p i s j ≡ matchesLater F p i s (j + (n + 1))
   walk-swallows e h k =
       let l : j + n < length s = omega arith in
       let next : j + (n + 1) ≡ j + n + 1 = omega arith in
-      let fails : matchesFrom p i s (j + n) ≡ false = rw e at says in
-      vain ∙ rw (next, drop-more s (j + n) l) (all-swallows (map elementIn (drop i p)) (getD s (j + n) 0) (drop (j + n + 1) s) (rw (drop-more s (j + n) l) at fails))
+      let fails : matchesFrom F p i s (j + n) ≡ false = rw e at says in
+      vain ∙ rw (next, drop-more s (j + n) l) (all-swallows F (map elementIn (drop i p)) (getD s (j + n) 0) (drop (j + n + 1) s) (rw (drop-more s (j + n) l) at fails))
 
   pub walk-falls : (a b : ℕ) → r ≡ All a b → (m : ℕ) → (length p - i) + (length s - j) ≡ m → (length p - a) + (length s - b) < m
   walk-falls a b e m h =
-      let fits : FitsToAll p i s (j + n) a b = fits-to-all p i s (j + n) r says a b e in
+      let fits : FitsToAll F p i s (j + n) a b = fits-to-all F p i s (j + n) r says a b e in
       omega arith
 
-  pub walk-all : (a b : ℕ) → r ≡ All a b → (t : Bool) → t ≡ matchesLater p a s b → t ≡ matchesLater p i s j
-  walk-all a b e t h = h ∙ sym (vain ∙ fits-to-all p i s (j + n) r says a b e .decidesLater)
+  pub walk-all : (a b : ℕ) → r ≡ All a b → (t : Bool) → t ≡ matchesLater F p a s b → t ≡ matchesLater F p i s j
+  walk-all a b e t h = h ∙ sym (vain ∙ fits-to-all F p i s (j + n) r says a b e .decidesLater)
 
 -- ---- a run from the front
 
-module _ (p s : List ℕ) (r : Run) (says : Says r p 0 s 0) where
-  pub front-matches : r ≡ Match → true ≡ matchesFrom p 0 s 0
+module _ (F p s : List ℕ) (r : Run) (says : Says r F p 0 s 0) where
+  pub front-matches : r ≡ Match → true ≡ matchesFrom F p 0 s 0
   front-matches e = sym (rw e at says)
 
-  pub front-fails : r ≡ Fail → false ≡ matchesFrom p 0 s 0
+  pub front-fails : r ≡ Fail → false ≡ matchesFrom F p 0 s 0
   front-fails e = sym (rw e at says)
 
-  pub front-never : r ≡ Never → false ≡ matchesFrom p 0 s 0
-  front-never e = sym (all-refuses (map elementIn p) s (rw e at says))
+  pub front-never : r ≡ Never → false ≡ matchesFrom F p 0 s 0
+  front-never e = sym (all-refuses F (map elementIn p) s (rw e at says))
 
-  pub front-all : (a b : ℕ) → r ≡ All a b → (t : Bool) → t ≡ matchesLater p a s b → t ≡ matchesFrom p 0 s 0
-  front-all a b e t h = h ∙ sym (fits-to-all p 0 s 0 r says a b e .decides)
+  pub front-all : (a b : ℕ) → r ≡ All a b → (t : Bool) → t ≡ matchesLater F p a s b → t ≡ matchesFrom F p 0 s 0
+  front-all a b e t h = h ∙ sym (fits-to-all F p 0 s 0 r says a b e .decides)
 
 -- ---- every element is `all`
 
@@ -160,8 +188,8 @@ module _ (p : List ℕ) (i : ℕ) (inv : allFrom p 0 ≡ allFrom p i) where
   all-so-far h e = inv ∙ rw (at-all p i h e) refl
 
   pub not-all : i < length p → (getD p i 0 ≡ 0 → ⊥) → false ≡ allFrom p 0
-  unfolding allOf isAll
-  not-all h n = sym (inv ∙ rw (at-fn p i h n))
+  unfolding allOf
+  not-all h n = sym (inv ∙ rw (at-element p i h, word-single (getD p i 0) n))
 
   pub all-to-end : length p ≤ i → true ≡ allFrom p 0
   unfolding allOf

@@ -1,61 +1,64 @@
--- What `matches` says of `all` and of functions, over plain lists.
+-- What `matches` says of `all` and of elements that are not, over plain lists.
 use Prim.Native.Nat.{ℕ}
 use mathlib.Core.Path.{_≡_, refl}
 use mathlib.Core.Bool.{true, false}
 use mathlib.Core.List.{List, [], _∷_}
-use lib.Dec.{eqb, eqb·suc-zero}
-use lib.ListN.{length}
-use Rattle.paper.specs.Policy.{Element, all, fn}
-use Rattle.paper.specs.Match.{swallowing, firstEquals, matches}
-use Rattle.laws.proofs.Tests.{both-false, either-left, either-right, neither, neither-left, neither-right}
 use Rattle.paper.specs.Common.{isEmpty}
+use Rattle.paper.specs.Policy.{Element, all}
+use Rattle.paper.specs.Match.{swallowing, firstMeets, matches, isAll}
+use Rattle.laws.specs.Frames.{meetsFrame}
+use Rattle.laws.proofs.Tests.{both-false, either-right, neither, neither-left, neither-right}
+use Rattle.laws.proofs.Elements.{single-matches}
 
-pub empty-refuses : (x : ℕ) (s : List ℕ) → matches [] (x ∷ s) ≡ false
-unfolding matches
-empty-refuses x s = eqb·suc-zero (length s)
+module _ (F : List ℕ) where
+  pub all-refuses : (p : List Element) (s : List ℕ) → matches F (all ∷ p) s ≡ false → matches F p s ≡ false
+  unfolding matches swallowing
+  all-refuses p [] h = h
+  all-refuses p (x ∷ s) h = neither-left (matches F p (x ∷ s)) (matches F (all ∷ p) s) h
 
--- `all` drops out
-pub all-takes : (p : List Element) (s : List ℕ) → matches p s ≡ true → matches (all ∷ p) s ≡ true
-unfolding matches swallowing
-all-takes p [] h = h
-all-takes p (x ∷ s) h = either-left (matches p (x ∷ s)) (matches (all ∷ p) s) h
+  -- where the rest does not match, `all` has to swallow a frame
+  pub all-swallows : (p : List Element) (x : ℕ) (s : List ℕ) → matches F p (x ∷ s) ≡ false → matches F (all ∷ p) (x ∷ s) ≡ matches F (all ∷ p) s
+  unfolding matches swallowing
+  all-swallows p x s h = rw h
 
-pub all-refuses : (p : List Element) (s : List ℕ) → matches (all ∷ p) s ≡ false → matches p s ≡ false
-unfolding matches swallowing
-all-refuses p [] h = h
-all-refuses p (x ∷ s) h = neither-left (matches p (x ∷ s)) (matches (all ∷ p) s) h
+  pub all-alone : (s : List ℕ) → matches F (all ∷ []) s ≡ true
+  unfolding matches swallowing
+  all-alone [] = refl
+  all-alone (x ∷ s) = either-right (isEmpty (x ∷ s)) (matches F (all ∷ []) s) (all-alone s)
 
--- where the rest does not match, `all` has to swallow a frame
-pub all-swallows : (p : List Element) (x : ℕ) (s : List ℕ) → matches p (x ∷ s) ≡ false → matches (all ∷ p) (x ∷ s) ≡ matches (all ∷ p) s
-unfolding matches swallowing
-all-swallows p x s h = rw h
+  pub all-twice : (p : List Element) (s : List ℕ) → matches F (all ∷ p) s ≡ false → matches F (all ∷ all ∷ p) s ≡ false
+  unfolding matches swallowing
+  all-twice p [] h = h
+  all-twice p (x ∷ s) h =
+      neither (matches F (all ∷ p) (x ∷ s)) (matches F (all ∷ all ∷ p) s) h (all-twice p s (neither-right (matches F p (x ∷ s)) (matches F (all ∷ p) s) h))
 
-pub all-alone : (s : List ℕ) → matches (all ∷ []) s ≡ true
-unfolding matches swallowing
-all-alone [] = refl
-all-alone (x ∷ s) = either-right (isEmpty (x ∷ s)) (matches (all ∷ []) s) (all-alone s)
+  -- ---- an element that is not `all`, before a pattern
+  module _ (e : Element) (single : isAll e ≡ false) (p : List Element) where
+    -- it needs a frame
+    single-at-end : matches F (e ∷ p) [] ≡ false
+    unfolding firstMeets
+    single-at-end = single-matches F e p [] single
 
-pub all-twice : (p : List Element) (s : List ℕ) → matches (all ∷ p) s ≡ false → matches (all ∷ all ∷ p) s ≡ false
-unfolding matches swallowing
-all-twice p [] h = h
-all-twice p (x ∷ s) h =
-    neither (matches (all ∷ p) (x ∷ s)) (matches (all ∷ all ∷ p) s) h (all-twice p s (neither-right (matches p (x ∷ s)) (matches (all ∷ p) s) h))
+    pub later-at-end : matches F (all ∷ e ∷ p) [] ≡ false
+    unfolding matches swallowing
+    later-at-end = single-at-end
 
--- where the rest never matches, it does not with a function before it
-all-fn-refuses-frame : (f x : ℕ) (p : List Element) (s : List ℕ) → matches (all ∷ p) s ≡ false → matches (all ∷ fn f ∷ p) s ≡ false → matches (all ∷ fn f ∷ p) (x ∷ s) ≡ false
-unfolding matches swallowing firstEquals
-all-fn-refuses-frame f x p s h k = neither (matches (fn f ∷ p) (x ∷ s)) (matches (all ∷ fn f ∷ p) s) (both-false (eqb f x) (matches p s) (all-refuses p s h)) k
+    -- where the rest does not match behind it, it does not
+    single-refuses : (x : ℕ) (s : List ℕ) → matches F p s ≡ false → matches F (e ∷ p) (x ∷ s) ≡ false
+    unfolding firstMeets
+    single-refuses x s h = rw (single-matches F e p (x ∷ s) single) (both-false (meetsFrame F e x) (matches F p s) h)
 
-all-fn-refuses : (f : ℕ) (p : List Element) (s : List ℕ) → matches (all ∷ p) s ≡ false → matches (all ∷ fn f ∷ p) s ≡ false
-unfolding matches swallowing firstEquals
-all-fn-refuses f p [] h = refl
-all-fn-refuses f p (x ∷ s) h =
-    let k : matches (all ∷ p) s ≡ false = neither-right (matches p (x ∷ s)) (matches (all ∷ p) s) h in
-    all-fn-refuses-frame f x p s k (all-fn-refuses f p s k)
+    -- where the rest never matches, it does not either
+    never-before : (x : ℕ) (s : List ℕ) → matches F (all ∷ p) s ≡ false → matches F (all ∷ e ∷ p) s ≡ false → matches F (all ∷ e ∷ p) (x ∷ s) ≡ false
+    unfolding matches swallowing
+    never-before x s h k = neither (matches F (e ∷ p) (x ∷ s)) (matches F (all ∷ e ∷ p) s) (single-refuses x s (all-refuses p s h)) k
 
-pub fn-refuses : (f x : ℕ) (p : List Element) (s : List ℕ) → matches (all ∷ p) s ≡ false → matches (all ∷ fn f ∷ p) (x ∷ s) ≡ false
-fn-refuses f x p s h = all-fn-refuses-frame f x p s h (all-fn-refuses f p s h)
+    never-anywhere : (s : List ℕ) → matches F (all ∷ p) s ≡ false → matches F (all ∷ e ∷ p) s ≡ false
+    unfolding matches swallowing
+    never-anywhere [] h = later-at-end
+    never-anywhere (x ∷ s) h =
+        let k : matches F (all ∷ p) s ≡ false = neither-right (matches F p (x ∷ s)) (matches F (all ∷ p) s) h in
+        never-before x s k (never-anywhere s k)
 
-pub fn-at-end : (f : ℕ) (p : List Element) → matches (all ∷ fn f ∷ p) [] ≡ false
-unfolding matches swallowing firstEquals
-fn-at-end f p = refl
+    pub later-refuses : (x : ℕ) (s : List ℕ) → matches F (all ∷ p) s ≡ false → matches F (all ∷ e ∷ p) (x ∷ s) ≡ false
+    later-refuses x s h = never-before x s h (never-anywhere s h)

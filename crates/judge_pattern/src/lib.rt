@@ -1,4 +1,5 @@
-// Patterns of elements (0 for `all`, n + 1 for function n) against stacks of function numbers, base first.
+// Patterns of elements (`paper::element`) against stacks of function numbers, base first; functions are given by their domains.
+use paper::element;
 ghost use mathlib.Core.Path.{_≡_};
 ghost use mathlib.Core.List.{map};
 ghost use Prim.Native.Nat.{_≤_};
@@ -6,10 +7,23 @@ ghost use lib.ListN.{length};
 ghost use Rattle.paper.specs.Common.{allOf};
 ghost use Rattle.paper.specs.Match.{matches, isAll};
 ghost use Rattle.paper.specs.Table.{elementIn};
+ghost use Rattle.laws.specs.Frames.{meetsFrame};
 ghost use Rattle.judge_pattern.specs.Run.{Says, matchesLater};
 
-// The element that is `all`.
-const ALL: u16 = 0;
+// An element that is not `all` meets a frame: it is that function, or a domain that the function lies in.
+fn meets(functions: &[u16], one: u16, frame: u16) -> bool
+    requires { ⌜ (one ≡ 0 → ⊥) ⌝ }
+    ensures { λ r. ⌜ r ≡ meetsFrame (now (functions .entry)) (elementIn one) frame ⌝ }
+{
+    if one < element::FIRST_DOMAIN {
+        return one - 1 == frame;
+    }
+    let f = frame as usize;
+    if functions.len() <= f {
+        return false;
+    }
+    functions[f] == one - element::FIRST_DOMAIN
+}
 
 // What comes of reading an element and a frame at a time, up to an `all`.
 enum Run {
@@ -19,20 +33,20 @@ enum Run {
     Fail,
     // nor from any later frame on
     Never,
-    // every function up to an `all` fits: the place after it, and that of the next frame
+    // every element up to an `all` fits: the place after it, and that of the next frame
     All { rest: usize, frame: usize },
 }
 
-// Reads functions and frames from places i and j on, up to an `all`.
-fn up_to_all(pattern: &[u16], i: usize, stack: &[u16], j: usize) -> Run
+// Reads elements and frames from places i and j on, up to an `all`.
+fn up_to_all(functions: &[u16], pattern: &[u16], i: usize, stack: &[u16], j: usize) -> Run
     requires { ⌜ (i ≤ length (now pattern)) × (j ≤ length (now stack)) ⌝ }
-    ensures { λ r. ⌜ Says r (now (pattern .entry)) i (now (stack .entry)) j ⌝ }
+    ensures { λ r. ⌜ Says r (now (functions .entry)) (now (pattern .entry)) i (now (stack .entry)) j ⌝ }
 {
     let mut a = i;
     let mut b = j;
     while a < pattern.len() {
-        let element = pattern[a];
-        if element == ALL {
+        let one = pattern[a];
+        if one == element::ALL {
             return Run::All {
                 rest: a + 1,
                 frame: b,
@@ -41,7 +55,7 @@ fn up_to_all(pattern: &[u16], i: usize, stack: &[u16], j: usize) -> Run
         if b == stack.len() {
             return Run::Never;
         }
-        if element - 1 != stack[b] {
+        if !meets(functions, one, stack[b]) {
             return Run::Fail;
         }
         a += 1;
@@ -55,10 +69,10 @@ fn up_to_all(pattern: &[u16], i: usize, stack: &[u16], j: usize) -> Run
 }
 
 // The pattern from place i on, behind an `all`, against the stack from place j on.
-// Once the functions up to the next `all` fit, no later place is tried: the frames between, that `all` can swallow.
-fn walk(pattern: &[u16], i: usize, stack: &[u16], j: usize) -> bool
+// Once the elements up to the next `all` fit, no later place is tried: the frames between, that `all` can swallow.
+fn walk(functions: &[u16], pattern: &[u16], i: usize, stack: &[u16], j: usize) -> bool
     requires { ⌜ (i ≤ length (now pattern)) × (j ≤ length (now stack)) ⌝ }
-    ensures { λ r. ⌜ r ≡ matchesLater (now (pattern .entry)) i (now (stack .entry)) j ⌝ }
+    ensures { λ r. ⌜ r ≡ matchesLater (now (functions .entry)) (now (pattern .entry)) i (now (stack .entry)) j ⌝ }
 {
     if i == pattern.len() {
         return true;
@@ -66,10 +80,10 @@ fn walk(pattern: &[u16], i: usize, stack: &[u16], j: usize) -> bool
     let mut swallowed = 0;
     loop {
         let k = j + swallowed;
-        match up_to_all(pattern, i, stack, k) {
+        match up_to_all(functions, pattern, i, stack, k) {
             Run::Match => return true,
             Run::Never => return false,
-            Run::All { rest, frame } => return walk(pattern, rest, stack, frame),
+            Run::All { rest, frame } => return walk(functions, pattern, rest, stack, frame),
             Run::Fail => {
                 if k == stack.len() {
                     break;
@@ -82,14 +96,14 @@ fn walk(pattern: &[u16], i: usize, stack: &[u16], j: usize) -> bool
 }
 
 // The pattern matches the stack.
-pub fn matches_stack(pattern: &[u16], stack: &[u16]) -> bool
-    ensures { λ r. ⌜ r ≡ matches (map elementIn (now (pattern .entry))) (now (stack .entry)) ⌝ }
+pub fn matches_stack(functions: &[u16], pattern: &[u16], stack: &[u16]) -> bool
+    ensures { λ r. ⌜ r ≡ matches (now (functions .entry)) (map elementIn (now (pattern .entry))) (now (stack .entry)) ⌝ }
 {
-    match up_to_all(pattern, 0, stack, 0) {
+    match up_to_all(functions, pattern, 0, stack, 0) {
         Run::Match => true,
         Run::Fail => false,
         Run::Never => false,
-        Run::All { rest, frame } => walk(pattern, rest, stack, frame),
+        Run::All { rest, frame } => walk(functions, pattern, rest, stack, frame),
     }
 }
 
@@ -99,7 +113,7 @@ pub fn is_all(pattern: &[u16]) -> bool
 {
     let mut i = 0;
     while i < pattern.len() {
-        if pattern[i] != ALL {
+        if pattern[i] != element::ALL {
             return false;
         }
         i += 1;

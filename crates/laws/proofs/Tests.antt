@@ -3,7 +3,7 @@ use mathlib.Core.Path.{_≡_, refl, sym, ap, _∙_}
 use mathlib.Core.Bool.{Bool, true, false, cond, not, _&&_, _||_}
 use mathlib.Core.Logic.{_⊎_, inl, inr, ⊎-elim, dite}
 use mathlib.Core.List.{List, [], _∷_}
-use Prim.Native.Nat.{ℕ, zero, suc, _+_, _<_, _≤_}
+use Prim.Native.Nat.{ℕ, zero, suc, _+_, _-_, _<_, _≤_}
 use native.Mathlib.Nat.{le-of-suc-le-suc, not-suc-le-zero, eq-or-lt-of-le}
 use native.Mathlib.Numerals.{add-one}
 use native.Mathlib.Decide.{ℕ-discrete, decLt}
@@ -56,6 +56,13 @@ neither-left false b p = refl
 pub neither-right : (a b : Bool) → (a || b) ≡ false → b ≡ false
 neither-right true b p = cc
 neither-right false b p = p
+
+-- k taken from one side or added to the other
+pub ltb-shifted : (k w m : ℕ) → k ≤ w → ltb (w - k) m ≡ ltb w (k + m)
+ltb-shifted k w m h =
+    dite (decLt (w - k) m)
+    (λ (l : w - k < m). lt-ltb (w - k) m l ∙ sym (lt-ltb w (k + m) (omega arith)))
+    (λ (l : ¬ (w - k < m)). le-ltb (w - k) m (omega arith) ∙ sym (le-ltb w (k + m) (omega arith)))
 
 -- two equalities that say the same
 pub eqb-same : (a b c d : ℕ) → (a ≡ b → c ≡ d) → (c ≡ d → a ≡ b) → eqb a b ≡ eqb c d

@@ -15,19 +15,18 @@ use Rattle.paper.specs.declared.Value.{Value}
 use Rattle.paper.specs.declared.Value.the-variants.{One, SomeOf}
 use Rattle.paper.specs.Scalars.{isScalar, sortNumber, sortOf}
 use Rattle.paper.specs.Lists.{bracketed, spaced, unspaced, elementsIn, elements, listFault}
-use Rattle.paper.specs.Listing.{subjectMembers, subjectOfEntry, executionContext, canRead, canWrite, callContextIn, uidIn, gidIn, objectContextIn, listing, rowAt, bareIsNone, valueFault}
+use Rattle.paper.specs.Listing.{subjectName, subjectMembers, subjectOfEntry, executionContext, canRead, canWrite, callContextIn, uidIn, gidIn, objectContextIn, listing, rowAt, bareIsNone, valueFault}
 use Rattle.paper.specs.Page.{Field}
 use Rattle.paper.specs.Entries.{isAtOne, callContexts, defaultAt, meant, valueAt}
-use Rattle.paper.specs.Rules.{longPattern, identifiersAt, allKnown, subjectLists, objectLists, namesUnknown}
+use Rattle.paper.specs.Rules.{longPattern, domainsAt, identifiersAt, elementNames, allKnown, subjectLists, objectLists, namesUnknown}
 use Rattle.paper.specs.Policy.{elementOf, contextOf}
 use Rattle.laws.proofs.Tests.{both-true, both-left, both-right, same-refl}
-use Rattle.laws.proofs.Counting.{allOf-weaker}
 use Rattle.laws_page.specs.Right.{isRight}
 use Rattle.laws_page.proofs.ListText.{list-right, list-text, textOf}
-use Rattle.laws_table.specs.Proper.{elementBelow, isGidSort, properContext}
+use Rattle.laws_table.specs.Proper.{isGidSort, properContext}
 use Rattle.laws_file.specs.Accepted.{isFilled, isGood}
-use Rattle.laws_file.proofs.Stretched.{allOf-map, value-holds}
-use Rattle.laws_file.proofs.Names.{known, element-below}
+use Rattle.laws_file.proofs.Stretched.{value-holds}
+use Rattle.laws_file.proofs.Names.{known, all-below}
 use Rattle.laws_file.proofs.Sorts.{gid-sort}
 
 -- ---- a field that can be neither bare nor have a block has a value, which is right
@@ -88,11 +87,11 @@ gid-place writing = record { value = refl; block = refl; default = refl }
 
 -- ---- the value of a `call_context`
 
-pub record PatternValue (names : List (List ℕ)) (v : List ℕ) : Type 0 where
+pub record PatternValue (functions domains : List (List ℕ)) (v : List ℕ) : Type 0 where
   pub right : listFault PatternElement v ≡ 0
   pub some : 1 ≤ length (elements v)
   pub few : length (elements v) ≤ mostElements
-  pub knows : allOf (known names) (elements v) ≡ true
+  pub knows : allOf (known functions domains) (elements v) ≡ true
 
 -- a list that is not `[]` has elements
 some-elements : (v : List ℕ) → is "[]" v ≡ false → listFault PatternElement v ≡ 0 → 1 ≤ length (elements v)
@@ -115,9 +114,9 @@ some-right v h = go (is "[]" v) h
     go false k = (refl, k)
 
 -- `[all]`
-default-pattern : (names : List (List ℕ)) → PatternValue names (bytes "[all]")
+default-pattern : (functions domains : List (List ℕ)) → PatternValue functions domains (bytes "[all]")
 unfolding listFault elements elementsIn bracketed spaced cut onPiece unspaced isScalar allOf anyOf among same
-default-pattern names = record { right = refl; some = omega arith; few = omega arith; knows = refl }
+default-pattern functions domains = record { right = refl; some = omega arith; few = omega arith; knows = refl }
 
 -- ---- a value of one scalar
 
@@ -155,6 +154,9 @@ module _ (file : List Field) where
   abbrev functionNames : List (List ℕ)
   functionNames = identifiersAt subjectMembers file
 
+  abbrev domainNames : List (List ℕ)
+  domainNames = domainsAt subjectName file
+
   -- a field that is good for its place
   pub field-written : (kind : Value) (f : Field) (place : ℕ) → f .place ≡ place → rowAt place .value ≡ kind → bareIsNone kind ≡ false
       → isEmpty (rowAt place .block) ≡ true → isGood file f ≡ true → Written kind f
@@ -169,11 +171,11 @@ module _ (file : List Field) where
     unfolding longPattern isAtOne
     pattern-few f e h = ltb-false _ _ (rw (e, pattern-place at .listed) at h)
 
-    pattern-known : (f : Field) → f .place ≡ callContextIn c → namesUnknown file f ≡ false → allOf (known functionNames) (elements (f .value)) ≡ true
-    unfolding namesUnknown isAtOne allKnown
+    pattern-known : (f : Field) → f .place ≡ callContextIn c → namesUnknown file f ≡ false → allOf (known functionNames domainNames) (elements (f .value)) ≡ true
+    unfolding namesUnknown elementNames isAtOne allKnown
     pattern-known f e h = not-false _ (rw (e, pattern-place at .notSubject, pattern-place at .notSubjects, pattern-place at .notObjects, pattern-place at .listed) at h)
 
-    pattern-field : (f : Field) → isGood file f ≡ true → f .place ≡ callContextIn c → PatternValue functionNames (meant f)
+    pattern-field : (f : Field) → isGood file f ≡ true → f .place ≡ callContextIn c → PatternValue functionNames domainNames (meant f)
     unfolding bareIsNone
     pattern-field f h e =
         let g = good file f h in
@@ -183,10 +185,10 @@ module _ (file : List Field) where
         (record { right = r .1; some = some-elements (f .value) (r .0) (r .1); few = pattern-few f e (g .short); knows = pattern-known f e (g .knows) })
 
     -- the pattern of a context, written or not
-    pub pattern-value : (fs : List Field) → allOf (isGood file) fs ≡ true → PatternValue functionNames (valueAt (callContextIn c) fs)
+    pub pattern-value : (fs : List Field) → allOf (isGood file) fs ≡ true → PatternValue functionNames domainNames (valueAt (callContextIn c) fs)
     pattern-value fs h =
-        value-holds (callContextIn c) (PatternValue functionNames) (isGood file) pattern-field fs h
-        (λ e. rw (pattern-place at .default) (default-pattern functionNames))
+        value-holds (callContextIn c) (PatternValue functionNames domainNames) (isGood file) pattern-field fs h
+        (λ e. rw (pattern-place at .default) (default-pattern functionNames domainNames))
 
     gid-value : (fs : List Field) → allOf (isGood file) fs ≡ true → isGidSort (sortOf (valueAt (gidIn c) fs)) ≡ true
     gid-value fs h =
@@ -195,14 +197,14 @@ module _ (file : List Field) where
         fs h
         (λ e. rw (gid-place at .default) default-gid)
 
-    pub context-proper : (fs : List Field) → allOf (isGood file) fs ≡ true → properContext (length functionNames) (contextOf functionNames c fs) ≡ true
+    pub context-proper : (fs : List Field) → allOf (isGood file) fs ≡ true → properContext (length functionNames) (length domainNames) (contextOf functionNames domainNames c fs) ≡ true
     unfolding properContext contextOf
     context-proper fs h =
         let v = pattern-value fs h in
-        let one-to-most : within 1 mostElements (length (map (elementOf functionNames) (elements (valueAt (callContextIn c) fs)))) ≡ true =
+        let one-to-most : within 1 mostElements (length (map (elementOf functionNames domainNames) (elements (valueAt (callContextIn c) fs)))) ≡ true =
         rw length-map (both-true _ _ (le-leb _ _ (v .some)) (le-leb _ _ (v .few))) in
         both-true _ _
         (both-true _ _
         one-to-most
-        (allOf-map (elementOf functionNames) (elementBelow (length functionNames)) (elements (valueAt (callContextIn c) fs)) (allOf-weaker _ _ (element-below functionNames) _ (v .knows))))
+        (all-below functionNames domainNames (elements (valueAt (callContextIn c) fs)) (v .knows)))
         (gid-value fs h)

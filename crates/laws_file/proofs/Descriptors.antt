@@ -137,13 +137,14 @@ module _ (file : List Field) {a : ℕ} (at : AccessAt a) (entry : List Field) wh
   unfolding isUnbound
   gid-bound f h = both-true _ _ (both-left (isGood file f) _ h) (ap not (neither-right (isUnboundKey uidIn entry f) _ (not-true _ (both-right (isGood file f) _ h))))
 
-  item-bound : (names : List (List ℕ)) (item : List Field) → allOf goodIn item ≡ true → boundIn (contextOf names executionContext entry) (descriptorOf file a item .context) ≡ true
+  item-bound : (functions domains : List (List ℕ)) (item : List Field) → allOf goodIn item ≡ true
+      → boundIn (contextOf functions domains executionContext entry) (descriptorOf file a item .context) ≡ true
   unfolding boundIn contextOf descriptorOf
-  item-bound names item h =
+  item-bound functions domains item h =
       both-true _ _
       (bound-value file entry uidIn UidValue uid-variable at (uid-place (context-of at)) item (allOf-weaker _ _ uid-bound item h))
       (bound-value file entry gidIn GidValue gid-variable at (gid-place (context-of at)) item (allOf-weaker _ _ gid-bound item h))
 
-  pub descriptors-bound : (names : List (List ℕ)) → allOf (isGood file) entry ≡ true → allOf (λ f. not (isUnbound entry f)) entry ≡ true
-      → allOf (λ d. boundIn (contextOf names executionContext entry) (d .context)) (accessOf file a entry) ≡ true
-  descriptors-bound names g u = accesses-all file a entry goodIn _ (item-bound names) (allOf-both (isGood file) (λ f. not (isUnbound entry f)) entry g u)
+  pub descriptors-bound : (functions domains : List (List ℕ)) → allOf (isGood file) entry ≡ true → allOf (λ f. not (isUnbound entry f)) entry ≡ true
+      → allOf (λ d. boundIn (contextOf functions domains executionContext entry) (d .context)) (accessOf file a entry) ≡ true
+  descriptors-bound functions domains g u = accesses-all file a entry goodIn _ (item-bound functions domains) (allOf-both (isGood file) (λ f. not (isUnbound entry f)) entry g u)

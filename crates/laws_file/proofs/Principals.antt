@@ -2,9 +2,11 @@
 use mathlib.Core.Path.{_≡_, refl, sym, _∙_}
 use mathlib.Core.Bool.{Bool, true, false, not, false≢true}
 use mathlib.Core.List.{List, [], _∷_, map}
-use Prim.Native.Nat.{ℕ}
+use Prim.Native.Nat.{ℕ, _≤_}
+use lib.ListN.{length}
 use borrow.Author.Tests.{eq-eqb, not-true, not-false}
 use Rattle.paper.specs.Common.{allOf, anyOf, among}
+use Rattle.paper.specs.Limits.{mostMembers}
 use Rattle.paper.specs.declared.Scalar.the-variants.{PatternElement, DomainName}
 use Rattle.paper.specs.declared.Value.the-variants.{One}
 use Rattle.paper.specs.Scalars.{sortOf, sortNumber}
@@ -70,9 +72,10 @@ module _ (file : List Field) where
       value-holds subjectOfEntry (λ v. among v domainNames ≡ true) (isGood file) subject-field entry (g .fields)
       (λ n. absurd (false≢true (sym n ∙ g .subject)))
 
-  same-principal : (a b : List Field) → isGoodEntry file a ≡ true → isGoodEntry file b ≡ true → sharePrincipal (entryOf file a) (entryOf file b) ≡ true → samePrincipal b a ≡ true
+  same-principal : length (identifiersAt subjectMembers file) ≤ mostMembers → (a b : List Field) → isGoodEntry file a ≡ true → isGoodEntry file b ≡ true
+      → sharePrincipal (entryOf file a) (entryOf file b) ≡ true → samePrincipal b a ≡ true
   unfolding sharePrincipal principalOf entryOf contextOf samePrincipal sameSort
-  same-principal a b p q h =
+  same-principal few a b p q h =
       let ga = good-entry file a p in
       let gb = good-entry file b q in
       let e : principalOf (entryOf file a) ≡ principalOf (entryOf file b) = same-equal _ _ h in
@@ -80,12 +83,13 @@ module _ (file : List Field) where
       let vb = pattern-value file execution b (gb .fields) in
       let s : valueAt subjectOfEntry a ≡ valueAt subjectOfEntry b = one-number domainNames _ _ (subject-known a ga) (subject-known b gb) (cc) in
       let xs : elements (valueAt (callContextIn executionContext) a) ≡ elements (valueAt (callContextIn executionContext) b) =
-      one-pattern (identifiersAt subjectMembers file) _ _ (va .knows) (vb .knows) (cc) in
+      one-pattern (identifiersAt subjectMembers file) domainNames few _ _ (va .knows) (vb .knows) (cc) in
       let c : valueAt (callContextIn executionContext) a ≡ valueAt (callContextIn executionContext) b = same-elements PatternElement PatternElement _ _ (va .right) (vb .right) xs in
       let u : sortNumber (sortOf (valueAt (uidIn executionContext) a)) ≡ sortNumber (sortOf (valueAt (uidIn executionContext) b)) = cc in
       let g : sortNumber (sortOf (valueAt (gidIn executionContext) a)) ≡ sortNumber (sortOf (valueAt (gidIn executionContext) b)) = cc in
       rw (s, c, same-refl (valueAt subjectOfEntry b), same-refl (valueAt (callContextIn executionContext) b), eq-eqb _ _ (sym u), eq-eqb _ _ (sym g))
 
   -- no two entries of the policy have one principal
-  pub principals-apart : (es : List (List Field)) → allOf (isGoodEntry file) es ≡ true → noTwo (λ a b. samePrincipal b a) es ≡ true → noTwo sharePrincipal (map (entryOf file) es) ≡ true
-  principals-apart es h n = noTwo-map (entryOf file) (λ a b. samePrincipal b a) sharePrincipal (isGoodEntry file) same-principal es h n
+  pub principals-apart : length (identifiersAt subjectMembers file) ≤ mostMembers → (es : List (List Field)) → allOf (isGoodEntry file) es ≡ true
+      → noTwo (λ a b. samePrincipal b a) es ≡ true → noTwo sharePrincipal (map (entryOf file) es) ≡ true
+  principals-apart few es h n = noTwo-map (entryOf file) (λ a b. samePrincipal b a) sharePrincipal (isGoodEntry file) (same-principal few) es h n

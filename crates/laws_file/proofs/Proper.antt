@@ -8,6 +8,7 @@ use lib.Dec.{ltb}
 use lib.ListN.{length, length-map, length-append}
 use borrow.Author.Tests.{lt-ltb}
 use Rattle.paper.specs.Common.{allOf, anyOf}
+use Rattle.paper.specs.Limits.{mostMembers}
 use Rattle.paper.specs.Listing.{objectName, objectMembers, subjectName, subjectMembers, principal, subjectOfEntry, canCall, canReturn, canRead, canWrite}
 use Rattle.paper.specs.Page.{Field, fields, pageOf}
 use Rattle.paper.specs.Entries.{isAt, valueAt, fieldsAt, entriesOf}
@@ -53,8 +54,8 @@ module _ (file : List Field) where
       (grant-proper (domainsAt subjectName file) (valueAt canCall entry)))
       (grant-proper (domainsAt subjectName file) (valueAt canReturn entry)))
       (both-accesses entry (properDescriptor (policyOf file)) (descriptors-proper file reads entry (g .fields)) (descriptors-proper file writes entry (g .fields))))
-      (both-accesses entry (λ d. boundIn (entryOf file entry .context) (d .context)) (descriptors-bound file reads entry _ (g .fields) (g .bound))
-      (descriptors-bound file writes entry _ (g .fields) (g .bound))))
+      (both-accesses entry (λ d. boundIn (entryOf file entry .context) (d .context)) (descriptors-bound file reads entry _ _ (g .fields) (g .bound))
+      (descriptors-bound file writes entry _ _ (g .fields) (g .bound))))
 
   -- an entry has as many descriptors as the rules count, and so has a policy
   pub entry-counted : (entry : List Field) → length (accessesOf (entryOf file entry)) ≡ descriptorsIn entry
@@ -103,19 +104,23 @@ module _ (fs : List Field) (numbered : allOf isNumbered fs ≡ true) (right : al
   unfolding domainsAt
   map-below name members h = members-below (length (domainsAt name fs)) 0 (fieldsAt members fs) (rw length-map (omega arith))
 
+  few-functions : length (policyOf fs .functions) ≤ mostMembers
+  unfolding policyOf
+  few-functions = rw (members-counted subjectMembers 0 fs) (limits .functions)
+
   parts : Proper (policyOf fs)
   unfolding policyOf allDescriptors entriesOf
   parts = record {
     objectDomains = rw (domains-counted objectName fs) (limits .objectDomains);
     subjectDomains = rw (domains-counted subjectName fs) (limits .subjectDomains);
     objects = rw (members-counted objectMembers 0 fs) (limits .objects);
-    functions = rw (members-counted subjectMembers 0 fs) (limits .functions);
+    functions = few-functions;
     entries = rw (entries-counted fs) (limits .entries);
     descriptors = rw (all-counted fs (entriesOf fs)) (limits .descriptors);
     objectsBelow = map-below objectName objectMembers (members-few objectName objectMembers objects-only (λ e. omega arith) (λ e. omega arith) fs ordered);
     functionsBelow = map-below subjectName subjectMembers (members-few subjectName subjectMembers subjects-only (λ e. omega arith) (λ e. omega arith) fs ordered);
     each = allOf-map (entryOf fs) (properEntry (policyOf fs)) (entriesOf fs) (allOf-weaker (isGoodEntry fs) _ (entry-proper fs) (entriesOf fs) entries-good);
-    apart = principals-apart fs (entriesOf fs) entries-good (all-apart fs numbered none);
+    apart = principals-apart fs (rw (← functions-named fs) few-functions) (entriesOf fs) entries-good (all-apart fs numbered none);
   }
 
 -- the policy of a file that holds to the rules is proper

@@ -1,16 +1,16 @@
 -- 8: the places of the four sorts of field that name something are apart, so the tests of the definition tell each of them.
 use mathlib.Core.Path.{_≡_, refl, ap}
-use mathlib.Core.List.{List, _∷_}
+use mathlib.Core.List.{List}
 use mathlib.Core.Bool.{Bool, true, false, cond, not, _&&_}
 use Prim.Native.Nat.{ℕ}
 use lib.Dec.{eqb}
 use borrow.Author.Tests.{eqb-true, eq-eqb, not-true}
-use Rattle.paper.specs.Common.{bytes, allOf, anyOf, among}
+use Rattle.paper.specs.Common.{allOf, anyOf, among}
 use Rattle.paper.specs.Lists.{elements}
-use Rattle.paper.specs.Listing.{subjectName, objectName, subjectMembers, subjectOfEntry}
+use Rattle.paper.specs.Listing.{subjectName, objectName, subjectOfEntry}
 use Rattle.paper.specs.Page.{Field}
 use Rattle.paper.specs.Entries.{isAt, isAtOne, callContexts}
-use Rattle.paper.specs.Rules.{subjectLists, objectLists, domainsAt, identifiersAt, allKnown, namesUnknown, unknownName}
+use Rattle.paper.specs.Rules.{subjectLists, objectLists, domainsAt, elementNames, allKnown, namesUnknown, unknownName}
 use Rattle.laws.proofs.Tests.{both-left, both-right}
 use Rattle.laws_page.specs.Right.{Ascending}
 use Rattle.laws_file.specs.Rules.{NamesUnknown, UnknownName}
@@ -57,10 +57,10 @@ chain file f entry lists objects patterns =
     cond entry (not (among (f .value) (domainsAt subjectName file)))
     (cond lists (not (allKnown (domainsAt subjectName file) (elements (f .value))))
     (cond objects (not (allKnown (domainsAt objectName file) (elements (f .value))))
-    (patterns && not (allKnown (bytes "all" ∷ identifiersAt subjectMembers file) (elements (f .value))))))
+    (patterns && not (allKnown (elementNames file) (elements (f .value))))))
 
 tells : (file before : List Field) (f : Field) → namesUnknown file f ≡ true → NamesUnknown file before f
-unfolding namesUnknown
+unfolding namesUnknown elementNames
 tells file before f e = go (isAt subjectOfEntry f) refl (isAtOne subjectLists f) refl (isAtOne objectLists f) refl e
   where
     go : (x : Bool) → isAt subjectOfEntry f ≡ x → (y : Bool) → isAtOne subjectLists f ≡ y → (z : Bool) → isAtOne objectLists f ≡ z
@@ -71,14 +71,14 @@ tells file before f e = go (isAt subjectOfEntry f) refl (isAtOne subjectLists f)
     go false p true q z r h = rules.NamesUnknown.subject-domain q (unknown-lacking (domainsAt subjectName file) (elements (f .value)) (not-true _ h))
     go false p false q true r h = rules.NamesUnknown.object-domain r (unknown-lacking (domainsAt objectName file) (elements (f .value)) (not-true _ h))
     go false p false q false r h =
-        rules.NamesUnknown.function (both-left (isAtOne callContexts f) _ h)
-        (unknown-lacking (bytes "all" ∷ identifiersAt subjectMembers file) (elements (f .value)) (not-true _ (both-right (isAtOne callContexts f) _ h)))
+        rules.NamesUnknown.element (both-left (isAtOne callContexts f) _ h)
+        (unknown-lacking (elementNames file) (elements (f .value)) (not-true _ (both-right (isAtOne callContexts f) _ h)))
 
 lacked : (known names : List (List ℕ)) → rules.Lacking known names → not (allKnown known names) ≡ true
 lacked known names l = ap not (lacking-unknown known names l)
 
 told : (file before : List Field) (f : Field) → NamesUnknown file before f → namesUnknown file f ≡ true
-unfolding namesUnknown isAtOne
+unfolding namesUnknown elementNames isAtOne
 told file before f (rules.NamesUnknown.subject-of-entry p l) = rw (eq-eqb (f .place) subjectOfEntry p) (go (among (f .value) (domainsAt subjectName file)) refl)
   where
     go : (t : Bool) → among (f .value) (domainsAt subjectName file) ≡ t → not t ≡ true
@@ -89,11 +89,11 @@ told file before f (rules.NamesUnknown.subject-domain p l) =
 told file before f (rules.NamesUnknown.object-domain p l) =
     rw (elsewhere objectLists (λ q. eqb q subjectOfEntry) f objects-entry p, elsewhere objectLists (λ q. anyOf (eqb q) subjectLists) f objects-lists p, p)
     (lacked (domainsAt objectName file) (elements (f .value)) l)
-told file before f (rules.NamesUnknown.function p l) =
+told file before f (rules.NamesUnknown.element p l) =
     let entry = elsewhere callContexts (λ q. eqb q subjectOfEntry) f patterns-entry p in
     let subjects = elsewhere callContexts (λ q. anyOf (eqb q) subjectLists) f patterns-lists p in
     let objects = elsewhere callContexts (λ q. anyOf (eqb q) objectLists) f patterns-objects p in
-    rw (entry, subjects, objects, p) (lacked (bytes "all" ∷ identifiersAt subjectMembers file) (elements (f .value)) l)
+    rw (entry, subjects, objects, p) (lacked (elementNames file) (elements (f .value)) l)
 
 pub unknown-name : (fs : List Field) → Ascending (λ f. f .line) 1 fs → Finds (UnknownName fs) (unknownName fs)
 unfolding unknownName

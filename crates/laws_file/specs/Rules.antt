@@ -105,13 +105,14 @@ pub record Lacking (known names : List (List ℕ)) : Type 0 where
   pub held : Has names name
   pub lacked : Has known name → ⊥
 
--- a field of the file names what its map lacks: the subject of an entry, a domain in a list, a function in a `call_context`
+-- a field of the file names what its map lacks: the subject of an entry, a domain in a list, an element of a `call_context`
 pub data NamesUnknown (file before : List Field) (f : Field) : Type 0 where
   subject-of-entry : f .place ≡ subjectOfEntry → (Has (domainsAt subjectName file) (f .value) → ⊥) → NamesUnknown file before f
   subject-domain : isAtOne subjectLists f ≡ true → Lacking (domainsAt subjectName file) (elements (f .value)) → NamesUnknown file before f
   object-domain : isAtOne objectLists f ≡ true → Lacking (domainsAt objectName file) (elements (f .value)) → NamesUnknown file before f
-  -- "`call_context` holds function identifiers or `all`"
-  function : isAtOne callContexts f ≡ true → Lacking (bytes "all" ∷ identifiersAt subjectMembers file) (elements (f .value)) → NamesUnknown file before f
+  -- "`call_context` holds function identifiers or `all`", or subject domain names (document 02 d)
+  element : isAtOne callContexts f ≡ true → Lacking (bytes "all" ∷ (identifiersAt subjectMembers file ++ domainsAt subjectName file)) (elements (f .value))
+      → NamesUnknown file before f
 
 -- on the line of that field
 abbrev pub UnknownName : List Field → ℕ → Type 0

@@ -12,7 +12,7 @@ use Rattle.paper.specs.Scalars.{isVariable}
 use Rattle.paper.specs.Listing.{principal, objectName, subjectName, subjectMembers, subjectOfEntry, executionContext, uidIn, gidIn}
 use Rattle.paper.specs.Page.{Field}
 use Rattle.paper.specs.Entries.{isAt, isAtOne, valueAt, upToNext, stretchesFrom, entriesOf}
-use Rattle.paper.specs.Rules.{earlier, earliest, firstWith, repeats, repeated, domainNamed, membersNamed, domainsAt, identifiersAt, namesUnknown}
+use Rattle.paper.specs.Rules.{earlier, earliest, firstWith, repeats, repeated, domainNamed, membersNamed, domainsAt, identifiersAt, elementNames, namesUnknown}
 use Rattle.paper.specs.Rules.{unknownName, inObjectContexts, isUnboundKey, isUnbound, unboundVariable}
 use Rattle.laws.proofs.Tests.{both-left, both-right}
 use Rattle.laws.proofs.Counting.{allOf-weaker}
@@ -127,7 +127,7 @@ module _ (fs : List Field) (o : inListingOrder 0 false fs ≡ true) where
   identifiers-filled p l = filled-same (identifiersAt p) (identifiers-say p) fs ∙ identifiers-written fs o p (omega arith)
 
   unknown-same : (f : Field) → namesUnknown (filledFields fs) f ≡ namesUnknown fs f
-  unfolding namesUnknown
+  unfolding namesUnknown elementNames
   unknown-same f =
       rw (domains-filled subjectName (omega arith), domains-filled objectName (omega arith), identifiers-filled subjectMembers (omega arith)) refl
 

@@ -58,7 +58,8 @@ module _ (fs : List Field) (o : inListingOrder 0 false fs ≡ true) where
   -- an entry, among the names of the file
   descriptor-written : (a : ℕ) (i : List Field) → descriptorOf (written fs) a i ≡ descriptorOf fs a i
   unfolding descriptorOf
-  descriptor-written a i = rw (identifiers-written subjectMembers (omega arith), domains-written objectName (omega arith)) refl
+  descriptor-written a i =
+      rw (identifiers-written subjectMembers (omega arith), domains-written subjectName (omega arith), domains-written objectName (omega arith)) refl
 
   access-written : (a : ℕ) (e : List Field) → accessOf (written fs) a e ≡ accessOf fs a e
   unfolding accessOf

@@ -9,6 +9,7 @@ use lib.Dec.{eqb, leb}
 use lib.ListN.{length, getD}
 use borrow.Author.Tests.{eqb-true, ne-eqb, leb-true, le-leb}
 use Rattle.paper.specs.declared.Kind.{Kind}
+use Rattle.paper.specs.declared.Kind.the-variants.{Subject}
 use Rattle.paper.specs.declared.Scalar.{Scalar}
 use Rattle.paper.specs.declared.Scalar.the-variants.{DomainName, UidValue, GidValue, SubjectIdentifier, ObjectIdentifier, PatternElement}
 use Rattle.paper.specs.declared.Value.{Value}
@@ -100,7 +101,11 @@ scalar-bytes UidValue s h =
 scalar-bytes GidValue s h = ⊎-elim (λ e. word-bytes (bytes "all") s refl e) (λ k. variable-bytes s k) (either-of (is "all" s) (isVariable s) h)
 scalar-bytes SubjectIdentifier s h = identifier-bytes _ s h
 scalar-bytes ObjectIdentifier s h = identifier-bytes _ s h
-scalar-bytes PatternElement s h = ⊎-elim (λ e. word-bytes (bytes "all") s refl e) (λ k. identifier-bytes _ s k) (either-of (is "all" s) _ h)
+scalar-bytes PatternElement s h =
+    ⊎-elim
+    (λ k. ⊎-elim (λ e. word-bytes (bytes "all") s refl e) (λ l. identifier-bytes _ s l) (either-of (is "all" s) _ k))
+    (λ k. name-bytes s (both-left (isName s) _ k))
+    (either-of (is "all" s || isIdentifier Subject s) (isDomainName s) h)
 
 -- ---- a scalar, a word and a list are plain
 

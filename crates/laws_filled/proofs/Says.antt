@@ -114,9 +114,9 @@ module _ (p : ℕ) where
 
 -- ---- the policy
 
-context-says : (functions : List (List ℕ)) (place : ℕ) (fs : List Field) → contextOf functions place (map says fs) ≡ contextOf functions place fs
+context-says : (functions domains : List (List ℕ)) (place : ℕ) (fs : List Field) → contextOf functions domains place (map says fs) ≡ contextOf functions domains place fs
 unfolding contextOf
-context-says functions place fs = rw (value-says (callContextIn place) fs, value-says (uidIn place) fs, value-says (gidIn place) fs) refl
+context-says functions domains place fs = rw (value-says (callContextIn place) fs, value-says (uidIn place) fs, value-says (gidIn place) fs) refl
 
 module _ (file : List Field) where
   descriptor-says : (a : ℕ) (item : List Field) → descriptorOf (map says file) a (map says item) ≡ descriptorOf file a item
@@ -124,8 +124,9 @@ module _ (file : List Field) where
   descriptor-says a item =
       rw (
         identifiers-say subjectMembers file,
+        domains-say subjectName file,
         domains-say objectName file,
-        context-says (identifiersAt subjectMembers file) (objectContextIn a) item,
+        context-says (identifiersAt subjectMembers file) (domainsAt subjectName file) (objectContextIn a) item,
         value-says (objectsIn a) item,
       ) refl
 
@@ -146,7 +147,7 @@ module _ (file : List Field) where
       rw (
         identifiers-say subjectMembers file,
         domains-say subjectName file,
-        context-says (identifiersAt subjectMembers file) executionContext e,
+        context-says (identifiersAt subjectMembers file) (domainsAt subjectName file) executionContext e,
         value-says subjectOfEntry e,
         value-says canCall e,
         value-says canReturn e,

@@ -10,7 +10,7 @@ use Rattle.paper.specs.Listing.{uidIn, gidIn, objectsIn}
 use Rattle.paper.specs.Page.{Field, fields}
 use Rattle.paper.specs.Entries.{isAtOne, valueAt, stretchesFrom, entriesOf, itemsOf, lineOfEntry}
 use Rattle.paper.specs.Rules.{firstWith, passing, oneAt, membersAt, descriptorsOf, descriptorsIn, longPattern, overLimit, repeated, domainNamed}
-use Rattle.paper.specs.Rules.{membersNamed, repeatsInList, namedTwice, domainsAt, identifiersAt, namesUnknown, unknownName}
+use Rattle.paper.specs.Rules.{membersNamed, repeatsInList, namedTwice, domainsAt, identifiersAt, elementNames, namesUnknown, unknownName}
 use Rattle.paper.specs.Rules.{isUnboundKey, isUnbound, unboundVariable, samePrincipal, twinAfter, twinPrincipal, ruled}
 use Rattle.laws_filled.specs.Fields.{unwritten}
 use Rattle.laws_filled.proofs.Says.{says, map-same, stretches-kept, value-says, domains-say, identifiers-say}
@@ -147,7 +147,7 @@ module _ (withReturn : ℕ → Bool) where
   -- ---- 8
 
   unknown-names : (file : List Field) (f : Field) → namesUnknown (map g file) (g f) ≡ namesUnknown file f
-  unfolding namesUnknown isAtOne moved
+  unfolding namesUnknown elementNames isAtOne moved
   unknown-names file f =
       rw (domains-moved subjectName file, domains-moved objectName file, identifiers-moved subjectMembers file) refl
 

@@ -1,43 +1,84 @@
 -- A context and its 20 words, read back both ways.
 use mathlib.Core.Path.{_≡_, refl, sym, ap, _∙_}
-use mathlib.Core.Bool.{true, cond}
+use mathlib.Core.Bool.{Bool, true, false, cond}
 use mathlib.Core.List.{List, [], _∷_, map}
 use mathlib.Core.Logic.{dite}
-use Prim.Native.Nat.{ℕ, zero, suc, _+_, _<_, _≤_}
+use Prim.Native.Nat.{ℕ, zero, suc, _+_, _-_, _<_, _≤_}
 use native.Mathlib.Decide.{decLt}
 use native.Mathlib.Numerals.{add-one}
 use native.Mathlib.Omega.{arith}
-use borrow.Author.Tests.{eqb-true, ltb-true, leb-true, eq-eqb, lt-ltb, le-ltb, le-leb}
-use lib.Dec.{ltb, leb, leb·zero}
+use borrow.Author.Tests.{eqb-true, ltb-true, ltb-false, leb-true, eq-eqb, lt-ltb, le-ltb, le-leb}
+use lib.Dec.{eqb, ltb, leb, leb·zero}
 use lib.ListN.{length, getD, take, drop, length-map, List·getD-map}
-use Rattle.paper.specs.Limits.{mostElements}
+use Rattle.paper.specs.Limits.{mostElements, mostMembers}
 use Rattle.paper.specs.Common.{allOf}
 use Rattle.paper.specs.Scalars.{Sort, anyone, variable, root, user, sortNumber}
-use Rattle.paper.specs.Policy.{Element, all, fn, Context}
-use Rattle.paper.specs.Table.{contextSize, contextSpareAt, elementsAt, gidAt, gidSorts, uidAt, uidSorts}
-use Rattle.paper.specs.Table.{padded, elementWord, contextWords, elementIn, sortIn, contextIn, contextFits, functionCount}
-use Rattle.laws.proofs.Tests.{both-true, both-left, both-right, upTo-at, upTo-all}
+use Rattle.paper.specs.Policy.{Element, all, fn, anyIn, Context}
+use Rattle.paper.specs.Table.{contextSize, contextSpareAt, elementsAt, firstDomainWord, gidAt, gidSorts, uidAt, uidSorts}
+use Rattle.paper.specs.Table.{padded, elementWord, contextWords, elementIn, sortIn, contextIn, elementListed, contextFits, functionCount, subjectDomainCount}
+use Rattle.laws.proofs.Tests.{ltb-shifted, both-true, both-left, both-right, upTo-at, upTo-all}
 use Rattle.laws.proofs.Stretches.{Stands, stands-word, stands-right, stands-more, stands-taken, length-taken, taken-stretch, padded-front, padded-zero, padded-stands}
 use Rattle.laws.proofs.Stretches.{length-padded}
 use Rattle.laws.proofs.Counting.{allOf-at, allOf-each}
+use Rattle.laws.proofs.Elements.{word-function, word-domain}
 use Rattle.laws_table.specs.Proper.{elementBelow, isGidSort, properContext}
 
 -- ---- elements and sorts
 
-element-read : (e : Element) → elementIn (elementWord e) ≡ e
-unfolding elementWord elementIn
-element-read all = refl
-element-read (fn f) = rw add-one
-
 element-written : (w : ℕ) → elementWord (elementIn w) ≡ w
 unfolding elementWord elementIn
 element-written zero = refl
-element-written (suc f) = add-one f
+element-written (suc f) = go (ltb (suc f) firstDomainWord) refl
+  where
+    go : (t : Bool) → ltb (suc f) firstDomainWord ≡ t → elementWord (cond t (fn f) (anyIn (suc f - firstDomainWord))) ≡ suc f
+    go true e = add-one f
+    go false e = let l : firstDomainWord ≤ suc f = ltb-false (suc f) firstDomainWord e in omega arith
 
-element-below : (n w : ℕ) → elementBelow n (elementIn w) ≡ leb w n
+-- among functions within their limit no function has the word of a domain
+element-read : (n m : ℕ) → n ≤ mostMembers → (e : Element) → elementBelow n m e ≡ true → elementIn (elementWord e) ≡ e
+unfolding elementBelow elementWord
+element-read n m few all h = unfold elementIn in refl
+element-read n m few (fn f) h =
+    let l : f < n = ltb-true f n h in word-function (f + 1) (omega arith) (omega arith) ∙ ap fn (omega arith)
+element-read n m few (anyIn d) h = word-domain (firstDomainWord + d) (omega arith) ∙ ap anyIn (omega arith)
+
+-- the test of a word, among so many functions and subject domains
+abbrev listed : ℕ → ℕ → ℕ → Bool
+listed n m w = cond (ltb w firstDomainWord) (leb w n) (ltb w (firstDomainWord + m))
+
+element-below : (n m w : ℕ) → elementBelow n m (elementIn w) ≡ listed n m w
 unfolding elementBelow elementIn
-element-below n zero = sym (leb·zero n)
-element-below n (suc f) = refl
+element-below n m zero = sym (leb·zero n)
+element-below n m (suc f) = go (ltb (suc f) firstDomainWord) refl
+  where
+    go : (t : Bool) → ltb (suc f) firstDomainWord ≡ t →
+        elementBelow n m (cond t (fn f) (anyIn (suc f - firstDomainWord))) ≡ cond t (leb (suc f) n) (ltb (suc f) (firstDomainWord + m))
+    go true e = refl
+    go false e = ltb-shifted firstDomainWord (suc f) m (ltb-false (suc f) firstDomainWord e)
+
+maps-back : {A B : Type 0} (f : B → A) (g : A → B) → ((x : A) → f (g x) ≡ x) → (xs : List A) → map f (map g xs) ≡ xs
+maps-back f g h [] = refl
+maps-back f g h (x ∷ xs) = let p : f (g x) ≡ x = h x in let q : map f (map g xs) ≡ xs = maps-back f g h xs in cc
+
+-- ---- patterns that are read back as they were written
+abbrev pub ReadBack : Context → Type 0
+ReadBack c = map elementIn (map elementWord (c .pattern)) ≡ c .pattern
+
+pub elements-read : (n m : ℕ) → n ≤ mostMembers → (pattern : List Element) → allOf (elementBelow n m) pattern ≡ true → map elementIn (map elementWord pattern) ≡ pattern
+unfolding allOf
+elements-read n m few [] h = refl
+elements-read n m few (e ∷ pattern) h =
+    let p : elementIn (elementWord e) ≡ e = element-read n m few e (both-left (elementBelow n m e) (allOf (elementBelow n m) pattern) h) in
+    let q : map elementIn (map elementWord pattern) ≡ pattern = elements-read n m few pattern (both-right (elementBelow n m e) (allOf (elementBelow n m) pattern) h) in
+    cc
+
+pub proper-read-back : (n m : ℕ) (c : Context) → n ≤ mostMembers → properContext n m c ≡ true → ReadBack c
+unfolding properContext
+proper-read-back n m c few h = elements-read n m few (c .pattern) (search (both-left, both-right))
+
+pub words-read-back : (ws : List ℕ) (at : ℕ) → ReadBack (contextIn ws at)
+unfolding contextIn
+words-read-back ws at = ap (map elementIn) (maps-back elementWord elementIn element-written (take (getD ws at 0) (drop (at + elementsAt) ws)))
 
 pub sort-read : (s : Sort) → sortIn (sortNumber s) ≡ s
 unfolding sortNumber sortIn
@@ -71,17 +112,13 @@ uid-number variable = omega arith
 uid-number root = omega arith
 uid-number user = omega arith
 
-maps-back : {A B : Type 0} (f : B → A) (g : A → B) → ((x : A) → f (g x) ≡ x) → (xs : List A) → map f (map g xs) ≡ xs
-maps-back f g h [] = refl
-maps-back f g h (x ∷ xs) = let p : f (g x) ≡ x = h x in let q : map f (map g xs) ≡ xs = maps-back f g h xs in cc
-
 pub length-context : (c : Context) → length (c .pattern) ≤ mostElements → length (contextWords c) ≡ contextSize
 unfolding contextWords
 length-context c few = omega (arith, length-padded mostElements (map elementWord (c .pattern)) (rw length-map few))
 
-pub context-few : (n : ℕ) (c : Context) → properContext n c ≡ true → length (c .pattern) ≤ mostElements
+pub context-few : (n m : ℕ) (c : Context) → properContext n m c ≡ true → length (c .pattern) ≤ mostElements
 unfolding properContext
-context-few n c h = leb-true _ _ (search (both-left, both-right))
+context-few n m c h = leb-true _ _ (search (both-left, both-right))
 
 -- what `contextFits` asks
 record Fitting (ws : List ℕ) (at : ℕ) : Type 0 where
@@ -90,7 +127,7 @@ record Fitting (ws : List ℕ) (at : ℕ) : Type 0 where
   uid : getD ws (at + uidAt) 0 < uidSorts
   gid : getD ws (at + gidAt) 0 < gidSorts
   unused : getD ws (at + contextSpareAt) 0 ≡ 0
-  used : (i : ℕ) → i < getD ws at 0 → getD ws (at + elementsAt + i) 0 ≤ functionCount ws
+  used : (i : ℕ) → i < getD ws at 0 → elementListed ws (getD ws (at + elementsAt + i) 0) ≡ true
   past : (i : ℕ) → getD ws at 0 ≤ i → i < mostElements → getD ws (at + elementsAt + i) 0 ≡ 0
 
 module _ (ws : List ℕ) (at : ℕ) where
@@ -98,7 +135,8 @@ module _ (ws : List ℕ) (at : ℕ) where
   unfolding contextFits
   fitting h =
       let few : getD ws at 0 ≤ mostElements = leb-true _ _ (search (both-left, both-right) depth 7) in
-      let element : (i : ℕ) → i < mostElements → leb (getD ws (at + elementsAt + i) 0) (cond (ltb i (getD ws at 0)) (functionCount ws) 0) ≡ true =
+      let element :
+      (i : ℕ) → i < mostElements → cond (ltb i (getD ws at 0)) (elementListed ws (getD ws (at + elementsAt + i) 0)) (eqb (getD ws (at + elementsAt + i) 0) 0) ≡ true =
       upTo-at _ mostElements (search (both-left, both-right) depth 7) in
       record {
         some = leb-true _ _ (search (both-left, both-right) depth 7);
@@ -106,14 +144,14 @@ module _ (ws : List ℕ) (at : ℕ) where
         uid = ltb-true _ _ (search (both-left, both-right) depth 7);
         gid = ltb-true _ _ (search (both-left, both-right) depth 7);
         unused = eqb-true _ _ (search (both-left, both-right) depth 7);
-        used = λ i l. leb-true _ _ (rw (lt-ltb i (getD ws at 0) l) at (element i (omega arith)));
-        past = λ i p q. omega (arith, leb-true (getD ws (at + elementsAt + i) 0) 0 (rw (le-ltb i (getD ws at 0) p) at (element i q)));
+        used = λ i l. rw (lt-ltb i (getD ws at 0) l) at (element i (omega arith));
+        past = λ i p q. eqb-true (getD ws (at + elementsAt + i) 0) 0 (rw (le-ltb i (getD ws at 0) p) at (element i q));
       }
 
   fitted : Fitting ws at → contextFits ws at ≡ true
   unfolding contextFits
   fitted f =
-      let used : (i : ℕ) → i < getD ws at 0 → getD ws (at + elementsAt + i) 0 ≤ functionCount ws = f .used in
+      let used : (i : ℕ) → i < getD ws at 0 → elementListed ws (getD ws (at + elementsAt + i) 0) ≡ true = f .used in
       let past : (i : ℕ) → getD ws at 0 ≤ i → i < mostElements → getD ws (at + elementsAt + i) 0 ≡ 0 = f .past in
       both-true _ _
       (both-true _ _
@@ -124,19 +162,19 @@ module _ (ws : List ℕ) (at : ℕ) where
       (lt-ltb _ _ (f .gid)))
       (eq-eqb _ _ (f .unused)))
       (upTo-all _ mostElements (λ i q. dite (decLt i (getD ws at 0))
-      (λ (l : i < getD ws at 0). rw (lt-ltb i (getD ws at 0) l) (le-leb _ _ (used i l)))
-      (λ (l : ¬ (i < getD ws at 0)). rw (le-ltb i (getD ws at 0) (omega arith)) (le-leb (getD ws (at + elementsAt + i) 0) 0 (omega (arith, past i (omega arith) q))))))
+      (λ (l : i < getD ws at 0). rw (lt-ltb i (getD ws at 0) l) (used i l))
+      (λ (l : ¬ (i < getD ws at 0)). rw (le-ltb i (getD ws at 0) (omega arith)) (eq-eqb (getD ws (at + elementsAt + i) 0) 0 (past i (omega arith) q)))))
 
-  pub context-read : (c : Context) → at + contextSize ≤ length ws → length (c .pattern) ≤ mostElements → Stands ws at (contextWords c) → contextIn ws at ≡ c
+  pub context-read : (c : Context) → at + contextSize ≤ length ws → length (c .pattern) ≤ mostElements → ReadBack c → Stands ws at (contextWords c) → contextIn ws at ≡ c
   unfolding contextWords contextIn
-  context-read c room few s =
+  context-read c room few back s =
       let n : getD ws at 0 ≡ length (c .pattern) = stands-word ws at 0 at _ s (omega arith) (omega arith) in
       let u : getD ws (at + uidAt) 0 ≡ sortNumber (c .uid) = s .reads 1 (omega arith) in
       let g : getD ws (at + gidAt) 0 ≡ sortNumber (c .gid) = s .reads 2 (omega arith) in
       let body : Stands ws (at + elementsAt) (padded mostElements (map elementWord (c .pattern))) = stands-right ws at (at + elementsAt) (_ ∷ _ ∷ _ ∷ 0 ∷ []) _ refl s in
       let t : take (length (c .pattern)) (drop (at + elementsAt) ws) ≡ map elementWord (c .pattern) =
       taken-stretch ws (at + elementsAt) _ _ (length-map (c .pattern) elementWord) (omega arith) (padded-front ws (at + elementsAt) mostElements _ body) in
-      rw (n, u, g, t, maps-back elementIn elementWord element-read (c .pattern), sort-read (c .uid), sort-read (c .gid))
+      rw (n, u, g, t, back, sort-read (c .uid), sort-read (c .gid))
 
   -- the words of the pattern
   abbrev pattern-words : List ℕ
@@ -147,10 +185,11 @@ module _ (ws : List ℕ) (at : ℕ) where
     pattern-length few = length-map pattern-words elementIn ∙ length-taken ws (at + elementsAt) (getD ws at 0) (omega arith)
 
     pattern-word : (i : ℕ) → i < length (map elementIn pattern-words)
-        → elementBelow (functionCount ws) (getD (map elementIn pattern-words) i (elementIn 0)) ≡ leb (getD ws (at + elementsAt + i) 0) (functionCount ws)
+        → elementBelow (functionCount ws) (subjectDomainCount ws) (getD (map elementIn pattern-words) i (elementIn 0)) ≡ elementListed ws (getD ws (at + elementsAt + i) 0)
+    unfolding elementListed
     pattern-word i l =
-        rw (List·getD-map elementIn pattern-words i 0, element-below (functionCount ws) (getD pattern-words i 0))
-        (ap (λ (w : ℕ). leb w (functionCount ws)) (sym (stands-taken ws (at + elementsAt) (getD ws at 0) .reads i (rw length-map at l))))
+        rw (List·getD-map elementIn pattern-words i 0, element-below (functionCount ws) (subjectDomainCount ws) (getD pattern-words i 0))
+        (ap (listed (functionCount ws) (subjectDomainCount ws)) (sym (stands-taken ws (at + elementsAt) (getD ws at 0) .reads i (rw length-map at l))))
 
     pub context-stands : contextFits ws at ≡ true → Stands ws at (contextWords (contextIn ws at))
     unfolding contextWords contextIn
@@ -167,7 +206,7 @@ module _ (ws : List ℕ) (at : ℕ) where
         (padded-stands ws (at + elementsAt) mostElements pattern-words (stands-taken ws (at + elementsAt) (getD ws at 0))
         (λ i p q. f .past i (omega (arith, length-map pattern-words elementIn)) q))))))
 
-    pub context-proper : contextFits ws at ≡ true → properContext (functionCount ws) (contextIn ws at) ≡ true
+    pub context-proper : contextFits ws at ≡ true → properContext (functionCount ws) (subjectDomainCount ws) (contextIn ws at) ≡ true
     unfolding properContext contextIn
     context-proper h =
         let f : Fitting ws at = fitting h in
@@ -175,16 +214,16 @@ module _ (ws : List ℕ) (at : ℕ) where
         (both-true _ _
         (both-true _ _
         (both-true _ _ (le-leb _ _ (f .some)) (le-leb _ _ (f .few)))
-        (allOf-each _ (elementIn 0) (map elementIn pattern-words) (λ i l. pattern-word i l ∙ le-leb _ _ (f .used i (omega (arith, pattern-length (f .few)))))))
+        (allOf-each _ (elementIn 0) (map elementIn pattern-words) (λ i l. pattern-word i l ∙ f .used i (omega (arith, pattern-length (f .few))))))
         (gid-sort (getD ws (at + gidAt) 0) (f .gid)))
 
-    pub context-fits : Stands ws at (contextWords (contextIn ws at)) → properContext (functionCount ws) (contextIn ws at) ≡ true → contextFits ws at ≡ true
+    pub context-fits : Stands ws at (contextWords (contextIn ws at)) → properContext (functionCount ws) (subjectDomainCount ws) (contextIn ws at) ≡ true → contextFits ws at ≡ true
     unfolding properContext contextIn contextWords contextFits
     context-fits s h =
         let n : getD ws at 0 ≡ length (map elementIn pattern-words) = stands-word ws at 0 at _ s (omega arith) (omega arith) in
         let some : 1 ≤ length (map elementIn pattern-words) = leb-true _ _ (search (both-left, both-right)) in
         let few : length (map elementIn pattern-words) ≤ mostElements = leb-true _ _ (search (both-left, both-right)) in
-        let below : allOf (elementBelow (functionCount ws)) (map elementIn pattern-words) ≡ true = search (both-left, both-right) in
+        let below : allOf (elementBelow (functionCount ws) (subjectDomainCount ws)) (map elementIn pattern-words) ≡ true = search (both-left, both-right) in
         let gid : isGidSort (sortIn (getD ws (at + gidAt) 0)) ≡ true = search (both-left, both-right) in
         let u : getD ws (at + uidAt) 0 ≡ sortNumber (sortIn (getD ws (at + uidAt) 0)) = s .reads 1 (omega arith) in
         let g : getD ws (at + gidAt) 0 ≡ sortNumber (sortIn (getD ws (at + gidAt) 0)) = s .reads 2 (omega arith) in
@@ -195,6 +234,6 @@ module _ (ws : List ℕ) (at : ℕ) where
           uid = omega (arith, uid-number (sortIn (getD ws (at + uidAt) 0)));
           gid = omega (arith, gid-number (sortIn (getD ws (at + gidAt) 0)) gid);
           unused = s .reads 3 (omega arith);
-          used = λ i l. leb-true _ _ (sym (pattern-word i (omega arith)) ∙ allOf-at _ (elementIn 0) _ below i (omega arith));
+          used = λ i l. sym (pattern-word i (omega arith)) ∙ allOf-at _ (elementIn 0) _ below i (omega arith);
           past = λ i p q. padded-zero ws (at + elementsAt) mostElements _ body i (omega (arith, length-map (map elementIn pattern-words) elementWord)) q;
         })

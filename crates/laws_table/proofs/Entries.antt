@@ -7,7 +7,7 @@ use native.Mathlib.Omega.{arith}
 use borrow.Author.Tests.{eqb-true, eq-eqb}
 use lib.Dec.{ltb}
 use lib.ListN.{length, getD, length-append}
-use Rattle.paper.specs.Limits.{mostDomains, mostElements}
+use Rattle.paper.specs.Limits.{mostDomains, mostElements, mostMembers}
 use Rattle.paper.specs.Common.{allOf, countUp}
 use Rattle.paper.specs.Policy.{Descriptor, Entry, Policy}
 use Rattle.paper.specs.Table.{grantSize, callsAt, descriptorSize, descriptorTailAt, descriptorTailSize, entrySize, entrySpareAt, entryTailAt, entryTailSize, grantAt, readsAt}
@@ -19,7 +19,7 @@ use Rattle.laws.proofs.Stretches.{Stands, word-at, stands-word, stands-left, st
 use Rattle.laws.proofs.Stretches.{length-padded, zeros-at, zeros-all}
 use Rattle.laws.proofs.Counting.{length-map-counted}
 use Rattle.laws_table.specs.Proper.{properContext, properGrant, properDescriptor, properEntry, accessesOf, boundIn}
-use Rattle.laws_table.proofs.Contexts.{length-context, context-few, context-read, context-stands, context-proper, context-fits}
+use Rattle.laws_table.proofs.Contexts.{length-context, context-few, proper-read-back, context-read, context-stands, context-proper, context-fits}
 use Rattle.laws_table.proofs.Grants.{length-grant, grant-read, grant-stands, grant-proper, grant-fits}
 
 -- ---- the parts of a descriptor's stretch, and of an entry's
@@ -132,11 +132,11 @@ pub record Agree (p : Policy) (ws : List ℕ) : Type 0 where
 
 pub descriptor-few : (p : Policy) (d : Descriptor) → properDescriptor p d ≡ true → length (d .context .pattern) ≤ mostElements
 unfolding properDescriptor
-descriptor-few p d h = context-few (length (p .functions)) (d .context) (search both-left)
+descriptor-few p d h = context-few (length (p .functions)) (p .subjectDomains) (d .context) (search both-left)
 
 pub entry-few : (p : Policy) (e : Entry) → properEntry p e ≡ true → length (e .context .pattern) ≤ mostElements
 unfolding properEntry
-entry-few p e h = context-few (length (p .functions)) (e .context) (search both-left depth 6)
+entry-few p e h = context-few (length (p .functions)) (p .subjectDomains) (e .context) (search both-left depth 6)
 
 pub entry-descriptors : (p : Policy) (e : Entry) → properEntry p e ≡ true → allOf (properDescriptor p) (accessesOf e) ≡ true
 unfolding properEntry
@@ -154,13 +154,14 @@ module _ (p : Policy) (ws : List ℕ) (agree : Agree p ws) where
   -- ---- descriptor k
 
   module _ (k : ℕ) (room : descriptorAt k + descriptorSize ≤ length ws) where
-    pub descriptor-read : (d : Descriptor) → p .objectDomains ≤ mostDomains → properDescriptor p d ≡ true → Stands ws (descriptorAt k) (descriptorWords d) → descriptorIn ws k ≡ d
+    pub descriptor-read : (d : Descriptor) → p .objectDomains ≤ mostDomains → length (p .functions) ≤ mostMembers → properDescriptor p d ≡ true
+        → Stands ws (descriptorAt k) (descriptorWords d) → descriptorIn ws k ≡ d
     unfolding descriptorIn properDescriptor
-    descriptor-read d fit good s =
+    descriptor-read d fit listed good s =
         let few : length (d .context .pattern) ≤ mostElements = descriptor-few p d good in
         let parts : DescriptorParts ws (descriptorAt k) d = descriptor-parts d few ws (descriptorAt k) s in
         rw (
-          context-read ws (descriptorAt k) (d .context) (omega arith) few (parts .context),
+          context-read ws (descriptorAt k) (d .context) (omega arith) few (proper-read-back (length (p .functions)) (p .subjectDomains) (d .context) listed (search both-left)) (parts .context),
           agree .objectDomains,
           grant-read ws (descriptorAt k + grantAt) (p .objectDomains) (d .objects) fit (search both-right) (parts .objects),
         )
@@ -168,7 +169,7 @@ module _ (p : Policy) (ws : List ℕ) (agree : Agree p ws) where
     pub descriptor-proper : descriptorFits ws (descriptorAt k) ≡ true → properDescriptor p (descriptorIn ws k) ≡ true
     unfolding descriptorIn descriptorFits properDescriptor
     descriptor-proper h =
-        rw (← agree .functions, ← agree .objectDomains)
+        rw (← agree .functions, ← agree .objectDomains, ← agree .subjectDomains)
         (both-true _ _ (context-proper ws (descriptorAt k) (omega arith) (search both-left)) (grant-proper ws (descriptorAt k + grantAt) (objectDomainCount ws)))
 
     pub descriptor-stands : descriptorFits ws (descriptorAt k) ≡ true → Stands ws (descriptorAt k) (descriptorWords (descriptorIn ws k))
@@ -188,23 +189,23 @@ module _ (p : Policy) (ws : List ℕ) (agree : Agree p ws) where
         let parts : DescriptorParts ws (descriptorAt k) (descriptorIn ws k) = descriptor-parts (descriptorIn ws k) (descriptor-few p (descriptorIn ws k) h) ws (descriptorAt k) s in
         both-true _ _
         (both-true _ _
-        (context-fits ws (descriptorAt k) (omega arith) (parts .context) (rw (agree .functions) (search both-left)))
+        (context-fits ws (descriptorAt k) (omega arith) (parts .context) (rw (agree .functions, agree .subjectDomains) (search both-left)))
         (grant-fits ws (descriptorAt k + grantAt) (objectDomainCount ws) (parts .objects)))
         (zeros-all ws (descriptorAt k + descriptorTailAt) descriptorTailSize (parts .rest))
 
   -- ---- entry k
 
   module _ (k : ℕ) (room : entryAt k + entrySize ≤ length ws) where
-    pub entry-read : (e : Entry) → p .subjectDomains ≤ mostDomains → properEntry p e ≡ true → Stands ws (entryAt k) (entryWords e)
+    pub entry-read : (e : Entry) → p .subjectDomains ≤ mostDomains → length (p .functions) ≤ mostMembers → properEntry p e ≡ true → Stands ws (entryAt k) (entryWords e)
         → map (descriptorIn ws) (countUp (firstDescriptor ws k) (length (e .reads))) ≡ e .reads
         → map (descriptorIn ws) (countUp (firstDescriptor ws k + length (e .reads)) (length (e .writes))) ≡ e .writes
         → entryIn ws k ≡ e
     unfolding entryIn properEntry
-    entry-read e fit good s reads writes =
+    entry-read e fit listed good s reads writes =
         let few : length (e .context .pattern) ≤ mostElements = entry-few p e good in
         let parts : EntryParts ws (entryAt k) e = entry-parts e few ws (entryAt k) s in
         rw (
-          context-read ws (entryAt k) (e .context) (omega arith) few (parts .context),
+          context-read ws (entryAt k) (e .context) (omega arith) few (proper-read-back (length (p .functions)) (p .subjectDomains) (e .context) listed (search both-left depth 6)) (parts .context),
           parts .subject,
           parts .reads,
           parts .writes,
@@ -219,8 +220,8 @@ module _ (p : Policy) (ws : List ℕ) (agree : Agree p ws) where
         → allOf (λ d. boundIn (entryIn ws k .context) (d .context)) (accessesOf (entryIn ws k)) ≡ true → properEntry p (entryIn ws k) ≡ true
     unfolding entryIn entryFits properEntry
     entry-proper h good bound =
-        let c : properContext (length (p .functions)) (contextIn ws (entryAt k)) ≡ true =
-        rw (← agree .functions) (context-proper ws (entryAt k) (omega arith) (search both-left depth 7)) in
+        let c : properContext (length (p .functions)) (p .subjectDomains) (contextIn ws (entryAt k)) ≡ true =
+        rw (← agree .functions, ← agree .subjectDomains) (context-proper ws (entryAt k) (omega arith) (search both-left depth 7)) in
         let s : ltb (getD ws (entryAt k + subjectAt) 0) (p .subjectDomains) ≡ true = rw (← agree .subjectDomains) (search (both-left, both-right) depth 7) in
         let g : (at : ℕ) → properGrant (p .subjectDomains) (grantIn ws at (subjectDomainCount ws)) ≡ true =
         λ at. rw (← agree .subjectDomains) (grant-proper ws at (subjectDomainCount ws)) in
@@ -230,7 +231,7 @@ module _ (p : Policy) (ws : List ℕ) (agree : Agree p ws) where
     unfolding entryIn entryFits
     entry-stands h =
         let c : contextFits ws (entryAt k) ≡ true = search both-left depth 7 in
-        entry-whole (entryIn ws k) (context-few (functionCount ws) (contextIn ws (entryAt k)) (context-proper ws (entryAt k) (omega arith) c)) ws (entryAt k)
+        entry-whole (entryIn ws k) (context-few (functionCount ws) (subjectDomainCount ws) (contextIn ws (entryAt k)) (context-proper ws (entryAt k) (omega arith) c)) ws (entryAt k)
         (record {
           context = context-stands ws (entryAt k) (omega arith) c;
           subject = refl;
@@ -246,7 +247,7 @@ module _ (p : Policy) (ws : List ℕ) (agree : Agree p ws) where
     unfolding entryIn entryFits properEntry
     entry-fits s h =
         let parts : EntryParts ws (entryAt k) (entryIn ws k) = entry-parts (entryIn ws k) (entry-few p (entryIn ws k) h) ws (entryAt k) s in
-        let c : contextFits ws (entryAt k) ≡ true = context-fits ws (entryAt k) (omega arith) (parts .context) (rw (agree .functions) (search both-left depth 7)) in
+        let c : contextFits ws (entryAt k) ≡ true = context-fits ws (entryAt k) (omega arith) (parts .context) (rw (agree .functions, agree .subjectDomains) (search both-left depth 7)) in
         let t : ltb (getD ws (entryAt k + subjectAt) 0) (subjectDomainCount ws) ≡ true = rw (agree .subjectDomains) (search (both-left, both-right) depth 7) in
         both-true _ _
         (both-true _ _

@@ -17,7 +17,7 @@ use Rattle.laws.proofs.Tests.{both-true, both-left, both-right, upTo-at, upTo-a
 use Rattle.laws.proofs.Stretches.{stands-none, stands-both, stands-more, taken-stretch, taken-same}
 use Rattle.laws.proofs.Counting.{allOf-counted, counted-allOf}
 use Rattle.laws_table.specs.Proper.{noTwo, principalOf, sharePrincipal}
-use Rattle.laws_table.proofs.Contexts.{length-context, context-few, context-read, context-stands, context-proper}
+use Rattle.laws_table.proofs.Contexts.{length-context, context-few, words-read-back, context-read, context-stands, context-proper}
 
 -- ---- no two of a list that is counted up
 
@@ -52,7 +52,7 @@ module _ (ws : List ℕ) where
     pub fits : contextFits ws at ≡ true
 
   few : (at : ℕ) → Standing at → length (contextIn ws at .pattern) ≤ mostElements
-  few at s = let room : at + principalSize ≤ length ws = s .room in context-few _ (contextIn ws at) (context-proper ws at (omega arith) (s .fits))
+  few at s = let room : at + principalSize ≤ length ws = s .room in context-few _ _ (contextIn ws at) (context-proper ws at (omega arith) (s .fits))
 
   principal-stands : (at : ℕ) → Standing at → take principalSize (drop at ws) ≡ contextWords (contextIn ws at) ++ (getD ws (at + subjectAt) 0 ∷ [])
   principal-stands at s =
@@ -67,7 +67,7 @@ module _ (ws : List ℕ) where
   context-same a b p q e =
       let room : b + principalSize ≤ length ws = q .room in
       let rooma : a + principalSize ≤ length ws = p .room in
-      context-read ws b (contextIn ws a) (omega arith) (few a p)
+      context-read ws b (contextIn ws a) (omega arith) (few a p) (words-read-back ws a)
       (record { reads = λ i l. sym (taken-same ws a b principalSize i e (omega (arith, length-context (contextIn ws a) (few a p)))) ∙ context-stands ws a (omega arith) (p .fits) .reads i l })
 
   share : (j k : ℕ) → Standing (entryAt j) → Standing (entryAt k) → onePrincipal ws j k ≡ sharePrincipal (entryIn ws j) (entryIn ws k)

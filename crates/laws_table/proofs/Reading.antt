@@ -32,7 +32,7 @@ module _ (p : Policy) (good : Proper p) (ws : List ℕ) (long : tableWords ≤ l
   descriptor-step k d ds h =
       let few : k + length (d ∷ ds) ≤ mostDescriptors = h .few in
       let own : properDescriptor p d ≡ true = both-left (properDescriptor p d) (allOf (properDescriptor p) ds) (h .each) in (
-        descriptor-read p ws (parts-agree p good ws parts) k (omega arith) d (good .objectDomains) own (stands-left ws (descriptorAt k) (descriptorWords d) _ (h .words)),
+        descriptor-read p ws (parts-agree p good ws parts) k (omega arith) d (good .objectDomains) (good .functions) own (stands-left ws (descriptorAt k) (descriptorWords d) _ (h .words)),
         record {
           few = omega arith;
           each = both-right (properDescriptor p d) (allOf (properDescriptor p) ds) (h .each);
@@ -75,7 +75,7 @@ module _ (p : Policy) (good : Proper p) (ws : List ℕ) (long : tableWords ≤ l
       let l1 = length-append (e .reads ++ e .writes) (flatMap accessesOf es) in
       let l2 = length-append (e .reads) (e .writes) in
       let n : firstDescriptor ws (k + 1) ≡ first + length (e .reads ++ e .writes) = next-first k e (entry-parts e (entry-few p e own) ws (entryAt k) s) in (
-        entry-read p ws (parts-agree p good ws parts) k (omega arith) e (good .subjectDomains) own s
+        entry-read p ws (parts-agree p good ws parts) k (omega arith) e (good .subjectDomains) (good .functions) own s
             (descriptors-read first (e .reads) (record { few = omega arith; each = reads; words = blocks-left descriptorWords ws (descriptorAt first) (e .reads) (e .writes) r }))
             (descriptors-read (first + length (e .reads)) (e .writes) (record {
               few = omega arith;

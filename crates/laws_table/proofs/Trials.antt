@@ -4,7 +4,7 @@ use mathlib.Core.Bool.{Bool, true, false}
 use mathlib.Core.List.{List, [], _∷_}
 use Prim.Native.Nat.{ℕ}
 use Rattle.paper.specs.Scalars.{Sort, anyone, variable, root, user}
-use Rattle.paper.specs.Policy.{Element, all, fn, every, these, Entry, Policy}
+use Rattle.paper.specs.Policy.{Element, all, fn, anyIn, every, these, Entry, Policy}
 use Rattle.paper.proofs.Computing.{computing}
 use Rattle.laws_table.specs.Proper.{elementBelow, isGidSort, properContext, properGrant, isBinding, boundIn, noTwo, principalOf, sharePrincipal, accessesOf}
 use Rattle.laws_table.specs.Proper.{allDescriptors, properDescriptor, properEntry, properCounts, proper}
@@ -36,6 +36,14 @@ sound = refl
 no-function-three : proper (policy (entry (all ∷ fn 3 ∷ []) variable anyone 1 (true ∷ false ∷ []) variable ∷ [])) ≡ false
 unfolding opened
 no-function-three = refl
+
+domain-in-a-pattern : proper (policy (entry (anyIn 1 ∷ fn 2 ∷ []) variable anyone 1 (true ∷ false ∷ []) variable ∷ [])) ≡ true
+unfolding opened
+domain-in-a-pattern = refl
+
+no-domain-two : proper (policy (entry (anyIn 2 ∷ fn 2 ∷ []) variable anyone 1 (true ∷ false ∷ []) variable ∷ [])) ≡ false
+unfolding opened
+no-domain-two = refl
 
 no-element : proper (policy (entry [] variable anyone 1 (true ∷ false ∷ []) variable ∷ [])) ≡ false
 unfolding opened

@@ -8,21 +8,23 @@ use lib.ListN.{length}
 use Rattle.paper.specs.Limits.{mostDescriptors, mostDomains, mostElements, mostEntries, mostMembers}
 use Rattle.paper.specs.Common.{within, allOf, same}
 use Rattle.paper.specs.Scalars.{Sort, variable, sortNumber}
-use Rattle.paper.specs.Policy.{Element, all, fn, Context, Grant, every, these, Descriptor, Entry, Policy}
+use Rattle.paper.specs.Policy.{Element, all, fn, anyIn, Context, Grant, every, these, Descriptor, Entry, Policy}
 use Rattle.paper.specs.Table.{gidSorts, elementWord}
 
 -- ---- a context and a grant, in entries and in descriptors
 
-unfoldable pub elementBelow : ℕ → Element → Bool
-elementBelow functions all = true
-elementBelow functions (fn f) = ltb f functions
+-- an element among so many functions and subject domains
+unfoldable pub elementBelow : ℕ → ℕ → Element → Bool
+elementBelow functions domains all = true
+elementBelow functions domains (fn f) = ltb f functions
+elementBelow functions domains (anyIn d) = ltb d domains
 
 unfoldable pub isGidSort : Sort → Bool
 isGidSort sort = ltb (sortNumber sort) gidSorts
 
--- a context among so many functions
-unfoldable pub properContext : ℕ → Context → Bool
-properContext functions c = within 1 mostElements (length (c .pattern)) && allOf (elementBelow functions) (c .pattern) && isGidSort (c .gid)
+-- a context among so many functions and subject domains
+unfoldable pub properContext : ℕ → ℕ → Context → Bool
+properContext functions domains c = within 1 mostElements (length (c .pattern)) && allOf (elementBelow functions domains) (c .pattern) && isGidSort (c .gid)
 
 -- a grant among so many domains: of each, whether it is granted
 unfoldable pub properGrant : ℕ → Grant → Bool
@@ -60,11 +62,11 @@ unfoldable pub allDescriptors : Policy → List Descriptor
 allDescriptors p = flatMap accessesOf (p .entries)
 
 unfoldable pub properDescriptor : Policy → Descriptor → Bool
-properDescriptor p d = properContext (length (p .functions)) (d .context) && properGrant (p .objectDomains) (d .objects)
+properDescriptor p d = properContext (length (p .functions)) (p .subjectDomains) (d .context) && properGrant (p .objectDomains) (d .objects)
 
 unfoldable pub properEntry : Policy → Entry → Bool
 properEntry p e =
-    properContext (length (p .functions)) (e .context)
+    properContext (length (p .functions)) (p .subjectDomains) (e .context)
     && ltb (e .subject) (p .subjectDomains)
     && properGrant (p .subjectDomains) (e .calls)
     && properGrant (p .subjectDomains) (e .returns)

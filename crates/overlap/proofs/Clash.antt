@@ -6,13 +6,14 @@ use mathlib.Core.Path.{_≡_, refl, sym, ap, _∙_}
 use mathlib.Core.Bool.{Bool, true, false, cond, not, _||_, false≢true}
 use mathlib.Core.List.{List, [], _∷_}
 use lib.Dec.{eqb, eqb·suc-zero}
-use lib.ListN.{length, getD}
+use lib.ListN.{length}
 use borrow.Author.Tests.{eqb-true, eq-eqb, not-true}
 use Rattle.paper.specs.Scalars.{Sort, anyone, variable, root, user, sortNumber}
 use Rattle.paper.specs.Policy.{Entry, Policy}
-use Rattle.paper.specs.Match.{Moment, top, topLiesIn, sortFits, matches, entryMatches}
+use Rattle.paper.specs.Match.{Moment, liesIn, top, topLiesIn, sortFits, matches, entryMatches}
 use Rattle.paper.specs.Overlap.{isUser, witnessUid, NotAfter}
-use Rattle.overlap_cells.specs.Best.{mostNeeded, topPasses, Meet, inDomain, bestStack}
+use Rattle.overlap_cells.specs.Best.{mostNeeded, topPasses, Meet, bestStack}
+use Rattle.overlap_meeting.proofs.Common.{one-domain}
 use Rattle.overlap_meeting.proofs.Best.{Some}
 use Rattle.overlap_meeting.proofs.Order.{best-short, best-sound, best-least}
 use Rattle.laws.proofs.Tests.{both-true, both-left, both-right}
@@ -27,22 +28,18 @@ unfolding topPasses
 passes-top test x [] = refl
 passes-top test x (y ∷ s) = passes-top test y s ∙ ap test (sym (top-next x y s))
 
-lies-top : (p : Policy) (d x : ℕ) (s : List ℕ) → topLiesIn p d (x ∷ s) ≡ inDomain (p .functions) d (top (x ∷ s))
-unfolding topLiesIn inDomain
+lies-top : (p : Policy) (d x : ℕ) (s : List ℕ) → topLiesIn p d (x ∷ s) ≡ liesIn (p .functions) d (top (x ∷ s))
+unfolding topLiesIn
 lies-top p d x s = rw (eqb·suc-zero (length s))
 
-top-lies : (p : Policy) (d : ℕ) (s : List ℕ) → topLiesIn p d s ≡ topPasses (inDomain (p .functions) d) s
+top-lies : (p : Policy) (d : ℕ) (s : List ℕ) → topLiesIn p d s ≡ topPasses (liesIn (p .functions) d) s
 unfolding topLiesIn topPasses
 top-lies p d [] = refl
-top-lies p d (x ∷ s) = lies-top p d x s ∙ sym (passes-top (inDomain (p .functions) d) x s)
+top-lies p d (x ∷ s) = lies-top p d x s ∙ sym (passes-top (liesIn (p .functions) d) x s)
 
--- a function lies in one domain only
-one-domain : (p : Policy) (a b : ℕ) (s : List ℕ) → topLiesIn p a s ≡ true → topLiesIn p b s ≡ true → a ≡ b
+one-subject : (p : Policy) (a b : ℕ) (s : List ℕ) → topLiesIn p a s ≡ true → topLiesIn p b s ≡ true → a ≡ b
 unfolding topLiesIn
-one-domain p a b s h k =
-    let x : eqb (getD (p .functions) (top s) 0) a ≡ true = search both-right in
-    let y : eqb (getD (p .functions) (top s) 0) b ≡ true = search both-right in
-    sym (eqb-true _ a x) ∙ eqb-true _ b y
+one-subject p a b s h k = one-domain (p .functions) a b (top s) (search both-right) (search both-right)
 
 -- ---- uids
 fit-together : (s t : Sort) (id : ℕ) → sortFits s id ≡ true → sortFits t id ≡ true → apart s t ≡ false
@@ -88,7 +85,7 @@ other-fits user user h = refl
 -- ---- an entry that matches a moment
 pub record Matched (p : Policy) (e : Entry) (m : Moment) : Type 0 where
   pub lies : topLiesIn p (e .subject) (m .stack) ≡ true
-  pub takes : matches (e .context .pattern) (m .stack) ≡ true
+  pub takes : matches (p .functions) (e .context .pattern) (m .stack) ≡ true
   pub uid : sortFits (e .context .uid) (m .uid) ≡ true
   pub gid : sortFits (e .context .gid) (m .gid) ≡ true
 
@@ -118,7 +115,7 @@ module _ (p : Policy) (a b : Entry) where
 
   module _ (gidA : sortFits (a .context .gid) 0 ≡ true) (gidB : sortFits (b .context .gid) 0 ≡ true) where
     both-at : (s : List ℕ) → a .subject ≡ b .subject → apart (a .context .uid) (b .context .uid) ≡ false →
-        Meet (inDomain (p .functions) (a .subject)) (a .context .pattern) (b .context .pattern) s → Both s
+        Meet (p .functions) (liesIn (p .functions) (a .subject)) (a .context .pattern) (b .context .pattern) s → Both s
     unfolding witnessUid
     both-at s e u c =
         let lies : topLiesIn p (a .subject) s ≡ true = top-lies p (a .subject) s ∙ c .top in (
@@ -147,7 +144,7 @@ module _ (p : Policy) (a b : Entry) where
       let f = matched p a m h in
       let g = matched p b m k in
       rw (
-        eq-eqb (a .subject) (b .subject) (one-domain p (a .subject) (b .subject) (m .stack) (f .lies) (g .lies)),
+        eq-eqb (a .subject) (b .subject) (one-subject p (a .subject) (b .subject) (m .stack) (f .lies) (g .lies)),
         fit-together (a .context .uid) (b .context .uid) (m .uid) (f .uid) (g .uid),
       )
       (best-least (p .functions) (a .subject) (a .context .pattern) (b .context .pattern) (m .stack)
@@ -170,7 +167,7 @@ module _ (p : Policy) (a b : Entry) where
   short-enough m h k =
       let f = matched p a m h in
       let g = matched p b m k in
-      let same = one-domain p (a .subject) (b .subject) (m .stack) (f .lies) (g .lies) in
+      let same = one-subject p (a .subject) (b .subject) (m .stack) (f .lies) (g .lies) in
       let found = best-least (p .functions) (a .subject) (a .context .pattern) (b .context .pattern) (m .stack)
       (record { one = f .takes; other = g .takes; top = sym (top-lies p (a .subject) (m .stack)) ∙ f .lies }) in
       let best = bestStack (p .functions) (a .subject) (a .context .pattern) (b .context .pattern) in

@@ -44,7 +44,7 @@ none-before i j below before = ⊎-elim (λ h. omega arith) (λ h. omega arith) 
 
 thirty-first : (m : Moment) → BothMatch two 0 1 m → NotAfter thirty (m .stack)
 unfolding entryOfPolicy
-thirty-first m both = needed base 15 aboveFifteen (m .stack) refl (matched two _ m (both .one) .takes) (matched two _ m (both .other) .takes)
+thirty-first m both = needed (two .functions) base 15 aboveFifteen (m .stack) refl (matched two _ m (both .one) .takes) (matched two _ m (both .other) .takes)
 
 -- no shorter stack is matched by both
 pub thirty-needed : (m : Moment) → BothMatch two 0 1 m → 30 ≤ length (m .stack)

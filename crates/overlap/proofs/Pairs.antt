@@ -93,8 +93,8 @@ module _ (ws : List ℕ) where
       pub higher-listed : entryCount ws ≤ mostEntries → j ≤ mostEntries
       higher-listed few = let l = clash .listed in omega arith
 
-      pub few-frames : (witness : List ℕ) → Ready ws witness → r ≤ witnessWords
-      few-frames witness ready =
+      pub few-frames : (lows witness : List ℕ) → Ready ws lows witness → r ≤ witnessWords
+      few-frames lows witness ready =
           let a = clash .ordered in
           let l = clash .listed in
           let s = stack-short ws (ready .formed) i j (omega arith) l in

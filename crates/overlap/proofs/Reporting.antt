@@ -10,17 +10,18 @@ use lib.Seq.{take-at}
 use borrow.Author.Tests.{lt-ltb, le-ltb, not-true, not-false}
 use Rattle.paper.specs.declared.Report.{Report}
 use Rattle.paper.specs.declared.Report.the-variants.{Clear, Clash, Unreported}
-use Rattle.paper.specs.Limits.{witnessWords}
+use Rattle.paper.specs.Limits.{mostMembers, witnessWords}
 use Rattle.paper.specs.Policy.{Policy}
-use Rattle.paper.specs.Table.{padded, entryIn, policyIn, entryCount, wellFormed}
+use Rattle.paper.specs.Table.{padded, entryIn, functionDomainsIn, policyIn, entryCount, wellFormed}
 use Rattle.paper.specs.Match.{Moment}
 use Rattle.paper.specs.Overlap.{BothMatch, NeverBoth, NotAfter, FirstClash, Says, entryOfPolicy, witnessUid, witnessLeft}
 use Rattle.paper.specs.Promises.{reportRefusal, Reported}
+use Rattle.overlap_cells.specs.Best.{Lows, InDomains}
 use Rattle.overlap_meeting.proofs.Best.{Some}
 use Rattle.overlap.specs.Clash.{pairStack, tableStack}
 use Rattle.overlap.specs.Told.{Ready, NoneBefore, Clashing, FirstOfAll}
 use Rattle.overlap.proofs.Clash.{clash-sound, clash-least}
-use Rattle.overlap.proofs.Words.{few-entries, entry-read, entries-counted, gid-free, pair-read, stack-short}
+use Rattle.overlap.proofs.Words.{few-entries, few-functions, in-domains, entry-read, entries-counted, gid-free, pair-read, stack-short}
 
 -- ---- of a policy: two entries clash exactly where `pairStack` finds a stack
 pub no-stack-no-clash : (p : Policy) (i j : ℕ) → pairStack p i j ≡ [] → NeverBoth p i j
@@ -92,13 +93,20 @@ module _ (ws : List ℕ) (t : Bool) (tested : t ≡ wellFormed ws) where
     good : wellFormed ws ≡ true
     good = sym tested ∙ not-false t h
 
+    module _ (functions : List ℕ) (e : functions ≡ functionDomainsIn ws) where
+      pub few-listed : length functions ≤ mostMembers
+      few-listed = rw e (few-functions ws good)
+
+      pub listed-in-domains : InDomains functions
+      listed-in-domains = rw e (in-domains ws good)
+
     pub no-room : (old : List ℕ) → length old < witnessWords → Reported ws old old (Unreported 40)
     unfolding Reported reportRefusal
     no-room old l = rw (good, lt-ltb (length old) witnessWords l) (refl, refl)
 
     module _ (old : List ℕ) (room : witnessWords ≤ length old) where
-      pub ready : Ready ws old
-      ready = record { formed = good; few = few-entries ws good; room = room }
+      pub ready : (lows functions : List ℕ) → functions ≡ functionDomainsIn ws → Lows functions lows → Ready ws lows old
+      ready lows functions e lowest = record { formed = good; few = few-entries ws good; lowest = rw (← e) lowest; room = room }
 
       module _ (new : List ℕ) (r : Report) (found : FirstOfAll ws old new r) where
         pub reported : Reported ws old new r

@@ -13,13 +13,14 @@ use Rattle.paper.specs.declared.Report.the-variants.{Clear, Clash}
 use Rattle.paper.specs.Limits.{witnessWords}
 use Rattle.paper.specs.Scalars.{Sort, anyone, root, user}
 use Rattle.paper.specs.Page.{Outcome, fields, fault}
-use Rattle.paper.specs.Policy.{Element, all, fn, every, Entry, Policy, policyOf}
+use Rattle.paper.specs.Policy.{Element, all, fn, anyIn, every, Entry, Policy, policyOf}
 use Rattle.paper.specs.Match.{sortFits}
 use Rattle.paper.specs.Overlap.{Says, entryOfPolicy, witnessUid, witnessLeft}
 use Rattle.paper.specs.Promises.{fileOf, judgeEvent}
 use Rattle.paper.proofs.Computing.{computing}
 use Rattle.paper.proofs.Example.{example}
-use Rattle.overlap_cells.specs.Best.{better, inFront, firstsOf, bestWith, row, bestBy, lowerOrSame, comesFirst, inDomain, lowestIn, alone, bestStack}
+use Rattle.laws.specs.Frames.{meetsFrame}
+use Rattle.overlap_cells.specs.Best.{better, inFront, lowestIn, alone, lowestFrame, commonFrame, firstsAt, firstsOf, bestWith, row, bestBy, lowerOrSame, comesFirst, bestStack}
 use Rattle.overlap.specs.Clash.{isRoot, apart, mayClash, clashStack, pairStack}
 use Rattle.overlap.proofs.Two.{two-clear, two-clash}
 
@@ -55,6 +56,20 @@ trials =
     ∷ pair (fn 0 ∷ all ∷ fn 1 ∷ []) anyone (all ∷ fn 2 ∷ fn 1 ∷ []) anyone (0 ∷ 2 ∷ 1 ∷ [])
     ∷ pair (all ∷ []) root (all ∷ []) user []
     ∷ pair (all ∷ fn 0 ∷ []) anyone (all ∷ []) anyone []
+    -- a domain and its own function, and one of another domain (document 02 d)
+    ∷ pair (anyIn 1 ∷ []) anyone (fn 2 ∷ []) anyone (2 ∷ [])
+    ∷ pair (fn 0 ∷ fn 1 ∷ []) anyone (anyIn 0 ∷ fn 1 ∷ []) anyone (0 ∷ 1 ∷ [])
+    ∷ pair (anyIn 1 ∷ fn 1 ∷ []) anyone (fn 0 ∷ fn 1 ∷ []) anyone []
+    -- one domain twice, and beside `all`: the lowest function
+    ∷ pair (anyIn 1 ∷ []) anyone (anyIn 1 ∷ all ∷ []) anyone (1 ∷ [])
+    ∷ pair (anyIn 0 ∷ anyIn 1 ∷ []) anyone (all ∷ fn 2 ∷ []) anyone (0 ∷ 2 ∷ [])
+    ∷ pair (all ∷ anyIn 1 ∷ anyIn 1 ∷ []) anyone (anyIn 0 ∷ all ∷ []) anyone (0 ∷ 1 ∷ 1 ∷ [])
+    -- two domains
+    ∷ pair (anyIn 0 ∷ all ∷ []) anyone (anyIn 1 ∷ all ∷ []) anyone []
+    ∷ pair (all ∷ anyIn 0 ∷ []) anyone (all ∷ anyIn 1 ∷ []) anyone []
+    -- domain 2 has no functions
+    ∷ pair (all ∷ anyIn 2 ∷ all ∷ []) anyone (all ∷ []) anyone []
+    ∷ pair (anyIn 2 ∷ all ∷ []) anyone (anyIn 2 ∷ all ∷ fn 1 ∷ []) anyone []
     -- "64 and 65 frames", and what the judge refuses besides
     ∷ event (replicate 64 1) returns 0 [] (Granted 0)
     ∷ event (replicate 65 1) returns 0 [] (Unjudged 21)
@@ -76,7 +91,7 @@ entry pattern uid =
     record { context = record { pattern = pattern; uid = uid; gid = anyone }; subject = 1; calls = every; returns = every; reads = []; writes = [] }
 
 abbrev policy : Entry → Entry → Policy
-policy a b = record { objectDomains = 0; subjectDomains = 2; objects = []; functions = 0 ∷ 1 ∷ 1 ∷ []; entries = a ∷ b ∷ [] }
+policy a b = record { objectDomains = 0; subjectDomains = 3; objects = []; functions = 0 ∷ 1 ∷ 1 ∷ []; entries = a ∷ b ∷ [] }
 
 abbrev report : Policy → List ℕ → Report
 report p [] = Clear
@@ -128,7 +143,7 @@ all-claimed (t ∷ ts) e =
     (claimed t first, all-claimed ts rest)
 
 unfoldable stacks : Unit {0}
-unfolding better inFront firstsOf bestWith row bestBy lowerOrSame comesFirst inDomain lowestIn alone bestStack isRoot apart mayClash clashStack pairStack
+unfolding better inFront lowestIn alone meetsFrame lowestFrame commonFrame firstsAt firstsOf bestWith row bestBy lowerOrSame comesFirst bestStack isRoot apart mayClash clashStack pairStack
 stacks = tt
 
 as-told : Claims trials

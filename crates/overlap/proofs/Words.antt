@@ -6,19 +6,19 @@ use mathlib.Core.Path.{_≡_, refl, sym, _∙_}
 use mathlib.Core.Bool.{Bool, true, false, not}
 use mathlib.Core.List.{List, [], map}
 use lib.Dec.{eqb, ltb, leb}
-use lib.ListN.{length, length-take, length-map}
+use lib.ListN.{length, getD, length-take, length-map}
 use borrow.Author.Tests.{eq-eqb, ne-eqb, leb-true, ltb-true, le-leb, lt-leb, not-true, not-false}
-use Rattle.paper.specs.Limits.{mostEntries, mostElements, witnessWords}
+use Rattle.paper.specs.Limits.{mostMembers, mostEntries, mostElements, witnessWords}
 use Rattle.paper.specs.Scalars.{sortNumber}
-use Rattle.paper.specs.Table.{subjectAt, uidAt, gidAt, gidSorts, entryAt, word, elementCount, elementIn, sortIn, entryCount}
+use Rattle.paper.specs.Table.{subjectAt, uidAt, gidAt, gidSorts, functionsAt, entryAt, word, subjectDomainCount, functionCount, elementCount, elementIn, sortIn, entryCount}
 use Rattle.paper.specs.Table.{patternWordsIn, functionDomainsIn, contextIn, entryIn, policyIn, contextFits, wellFormed}
 use Rattle.paper.specs.Match.{sortFits}
 use Rattle.paper.specs.Overlap.{isUser, entryOfPolicy, witnessUid, witnessLeft}
 use Rattle.laws.proofs.Tests.{both-left, both-right}
-use Rattle.laws.proofs.Counting.{length-map-counted, getD-counted}
-use Rattle.laws_table.proofs.Formed.{formed}
+use Rattle.laws.proofs.Counting.{allOf-at, length-map-counted, getD-counted}
+use Rattle.laws_table.proofs.Formed.{formed, members-below}
 use Rattle.laws_table.proofs.Entries.{entry-context}
-use Rattle.overlap_cells.specs.Best.{bestStack}
+use Rattle.overlap_cells.specs.Best.{InDomains, Lows, bestStack}
 use Rattle.overlap_meeting.specs.Written.{Fits, Written}
 use Rattle.overlap.specs.Clash.{isRoot, apart, mayClash, clashStack, pairStack, tableStack}
 use Rattle.overlap.proofs.Clash.{clash-short}
@@ -107,6 +107,20 @@ module _ (ws : List ℕ) (good : wellFormed ws ≡ true) where
   pub few-entries : entryCount ws ≤ mostEntries
   few-entries = formed ws good .fewEntries
 
+  pub few-functions : length (functionDomainsIn ws) ≤ mostMembers
+  few-functions = rw length-take (let l = formed ws good .fewFunctions in omega arith)
+
+  pub in-domains : InDomains (functionDomainsIn ws)
+  unfolding InDomains
+  in-domains f h =
+      let g = formed ws good in
+      let room = g .long in
+      let few = g .fewFunctions in
+      let listed = members-below ws functionsAt (functionCount ws) (subjectDomainCount ws) (omega arith) few (g .functions) in
+      let below : getD (functionDomainsIn ws) f 0 < subjectDomainCount ws = ltb-true _ _ (allOf-at (λ d. ltb d (subjectDomainCount ws)) 0 (functionDomainsIn ws) listed f h) in
+      let domains = g .subjectDomains in
+      omega arith
+
   module _ (k : ℕ) (h : k < entryCount ws) where
     context-good : contextFits ws (entryAt k) ≡ true
     context-good = entry-context ws (entryAt k) (formed ws good .entry k h)
@@ -145,14 +159,11 @@ module _ (ws : List ℕ) (good : wellFormed ws ≡ true) where
         omega arith
 
     -- the parts of the table that are read fit
-    pub parts-fit : (p q functions witness : List ℕ) → p ≡ patternWordsIn ws (entryAt i) → q ≡ patternWordsIn ws (entryAt j) → functions ≡ functionDomainsIn ws →
-        witnessWords ≤ length witness → Fits p q functions witness
-    parts-fit p q functions witness e f g room = record {
-      one = rw e (short-pattern i hi);
-      other = rw f (short-pattern j hj);
-      listed = rw (g, length-take) (let l = formed ws good .fewFunctions in omega arith);
-      room = room;
-    }
+    pub parts-fit : (p q witness : List ℕ) → p ≡ patternWordsIn ws (entryAt i) → q ≡ patternWordsIn ws (entryAt j) → witnessWords ≤ length witness → Fits p q witness
+    parts-fit p q witness e f room = record { one = rw e (short-pattern i hi); other = rw f (short-pattern j hj); room = room }
+
+pub lows-of : (ws functions lows : List ℕ) → functions ≡ functionDomainsIn ws → Lows (functionDomainsIn ws) lows → Lows functions lows
+lows-of ws functions lows e lowest = rw e lowest
 
 pub entries-counted : (ws : List ℕ) → length (policyIn ws .entries) ≡ entryCount ws
 unfolding policyIn

@@ -7,17 +7,19 @@ use lib.ListN.{length, drop}
 use Rattle.paper.specs.declared.Report.{Report}
 use Rattle.paper.specs.declared.Report.the-variants.{Clear, Clash, Unreported}
 use Rattle.paper.specs.Limits.{mostEntries, witnessWords}
-use Rattle.paper.specs.Table.{entryCount, entryIn, wellFormed}
+use Rattle.paper.specs.Table.{entryCount, entryIn, functionDomainsIn, wellFormed}
 use Rattle.paper.specs.Overlap.{PairBefore, witnessUid, witnessLeft}
+use Rattle.overlap_cells.specs.Best.{Lows}
 use Rattle.overlap_meeting.specs.Written.{Written}
 use Rattle.overlap.specs.declared.Found.{Found}
 use Rattle.overlap.specs.declared.Found.the-variants.{Nothing, At}
 use Rattle.overlap.specs.Clash.{tableStack}
 
--- the table is well formed, and the witness has room
-pub record Ready (ws witness : List ℕ) : Type 0 where
+-- the table is well formed, the lowest function of each domain is at hand, and the witness has room
+pub record Ready (ws lows witness : List ℕ) : Type 0 where
   pub formed : wellFormed ws ≡ true
   pub few : entryCount ws ≤ mostEntries
+  pub lowest : Lows (functionDomainsIn ws) lows
   pub room : witnessWords ≤ length witness
 
 -- no pair before these two clashes

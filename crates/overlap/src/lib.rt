@@ -66,8 +66,8 @@ fn may_clash(t: &[u16], i: usize, j: usize) -> bool
 }
 
 // The stack at which entries i and j clash, to the witness: how many frames it has, or 0.
-fn write_clash(t: &[u16], i: usize, j: usize, witness: &mut [u16]) -> usize
-    requires { ⌜ Ready (now t) (now witness) × (i < entryCount (now t)) × (j < entryCount (now t)) ⌝ }
+fn write_clash(t: &[u16], lows: &[u16], i: usize, j: usize, witness: &mut [u16]) -> usize
+    requires { ⌜ Ready (now t) (now lows) (now witness) × (i < entryCount (now t)) × (j < entryCount (now t)) ⌝ }
     ensures { λ r. ⌜ Written (tableStack (now (t .entry)) i j) (now (witness .entry)) (now (witness .exit)) r ⌝ }
 {
     if !may_clash(t, i, j) {
@@ -78,19 +78,19 @@ fn write_clash(t: &[u16], i: usize, j: usize, witness: &mut [u16]) -> usize
     let q = pattern_of(t, j);
     let functions = table::functions(t);
     let subject = subject_of(t, i);
-    overlap_meeting::write_best_stack(p, q, functions, subject, witness)
+    overlap_meeting::write_best_stack(p, q, functions, lows, subject, witness)
 }
 
 // The first entry after entry i that clashes with it.
-fn first_after(t: &[u16], i: usize, witness: &mut [u16]) -> Found
-    requires { ⌜ Ready (now t) (now witness) × (i < entryCount (now t)) ⌝ }
+fn first_after(t: &[u16], lows: &[u16], i: usize, witness: &mut [u16]) -> Found
+    requires { ⌜ Ready (now t) (now lows) (now witness) × (i < entryCount (now t)) ⌝ }
     requires { ⌜ NoneBefore (now t) i 0 ⌝ }
     ensures { λ r. ⌜ FirstAfter (now (t .entry)) (now (witness .entry)) (now (witness .exit)) i r ⌝ }
 {
     let n = table::count(t, layout::ENTRY_COUNT_AT);
     let mut j = i + 1;
     while j < n {
-        let depth = write_clash(t, i, j, witness);
+        let depth = write_clash(t, lows, i, j, witness);
         if depth != 0 {
             return Found::At {
                 higher: j,
@@ -130,15 +130,15 @@ fn clash_of(t: &[u16], i: usize, j: usize, depth: usize) -> Report
     }
 }
 
-// The report of a well-formed table.
-fn first_clash(t: &[u16], witness: &mut [u16]) -> Report
-    requires { ⌜ Ready (now t) (now witness) ⌝ }
+// The report of a well-formed table; lows: the lowest function of each domain.
+fn first_clash(t: &[u16], lows: &[u16], witness: &mut [u16]) -> Report
+    requires { ⌜ Ready (now t) (now lows) (now witness) ⌝ }
     ensures { λ r. ⌜ FirstOfAll (now (t .entry)) (now (witness .entry)) (now (witness .exit)) r ⌝ }
 {
     let n = table::count(t, layout::ENTRY_COUNT_AT);
     let mut i: usize = 0;
     while i < n {
-        match first_after(t, i, witness) {
+        match first_after(t, lows, i, witness) {
             Found::At { higher, depth } => return clash_of(t, i, higher, depth),
             Found::Nothing => {
                 i += 1;
@@ -163,5 +163,6 @@ pub fn overlap(table: &[u16], witness: &mut [u16]) -> Report
             number: refusal::WITNESS_TOO_SHORT,
         };
     }
-    first_clash(table, witness)
+    let lows = overlap_cells::lowest_functions(table::functions(table));
+    first_clash(table, &lows, witness)
 }

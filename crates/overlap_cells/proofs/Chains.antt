@@ -5,14 +5,15 @@ use native.Mathlib.Numerals.{add-one, sub-one}
 use mathlib.Core.Path.{_≡_, refl, sym, ap, subst, _∙_}
 use mathlib.Core.Bool.{Bool, true, false, cond, _||_}
 use mathlib.Core.List.{List, [], _∷_}
-use lib.ListN.{length, getD, drop, drop-of-length-le}
-use lib.Dec.{eqb, ltb}
+use lib.ListN.{length, getD}
+use lib.Dec.{ltb}
 use mir.Syntax.{w64}
 use mir.Val.{Fits}
 use borrow.Author.Tests.{eq-eqb, ne-eqb, lt-ltb, le-ltb}
-use Rattle.laws.proofs.Places.{drop-more}
 use Rattle.overlap_cells.specs.declared.Chain.{Chain}
-use Rattle.overlap_cells.specs.Best.{better, inFront, lowerOrSame, comesFirst, lowestIn, alone}
+use Rattle.overlap_cells.specs.declared.Common.{Common}
+use Rattle.overlap_cells.specs.declared.Common.the-variants.{At, Nothing}
+use Rattle.overlap_cells.specs.Best.{better, inFront, lowerOrSame, comesFirst, frameOf}
 use Rattle.overlap_cells.specs.Cells.{cells, stackAt, stackOf, chainStack, Short, Forward, NoStack}
 
 pub stack-length : (B R : List ℕ) (c n : ℕ) → length (stackAt B R c n) ≡ n
@@ -169,25 +170,12 @@ there t u e = rw e
 pub not-there : (t : Bool) (u r : List ℕ) → t ≡ false → r ≡ [] → r ≡ cond t u []
 not-there t u r e h = rw (e, h)
 
--- ---- the lowest function in a domain, alone
-module _ (F : List ℕ) (d i : ℕ) where
-  lowest-step : i < length F → lowestIn (drop i F) d ≡ cond (eqb (getD F i 0) d) 0 (lowestIn (drop (i + 1) F) d + 1)
-  unfolding lowestIn
-  lowest-step h = rw (drop-more F i h)
+-- ---- a frame alone
+module _ (B R u : List ℕ) (c : Common) (told : frameOf c ≡ u) where
+  pub lone-frame : (f n : ℕ) → c ≡ At f → stackOf B R 1 f n ≡ u
+  unfolding frameOf stackOf stackAt
+  lone-frame f n e = rw e at told
 
-  module _ (so-far : lowestIn F d ≡ i + lowestIn (drop i F) d) where
-    pub lowest-again : i < length F → (getD F i 0 ≡ d → ⊥) → lowestIn F d ≡ i + 1 + lowestIn (drop (i + 1) F) d
-    lowest-again h n = let k = rw (lowest-step h, ne-eqb (getD F i 0) d n) at so-far in omega arith
-
-    pub lowest-found : (B R : List ℕ) (c : ℕ) → i < length F → getD F i 0 ≡ d → stackOf B R 1 i c ≡ alone F (lowestIn F d)
-    unfolding alone stackOf stackAt
-    lowest-found B R c h e =
-        let k = rw (lowest-step h, eq-eqb (getD F i 0) d e) at so-far in
-        let f : lowestIn F d ≡ i = omega arith in
-        rw (f, lt-ltb i (length F) h)
-
-    pub lowest-none : (B R : List ℕ) (x : Chain) → length F ≤ i → NoStack x → chainStack B R x ≡ alone F (lowestIn F d)
-    unfolding alone lowestIn
-    lowest-none B R x h s =
-        let k = rw (drop-of-length-le F h) at so-far in
-        rw (no-frames B R x s, le-ltb (lowestIn F d) (length F) (omega arith))
+  pub no-lone-frame : (x : Chain) → c ≡ Nothing → NoStack x → chainStack B R x ≡ u
+  unfolding frameOf
+  no-lone-frame x e h = no-frames B R x h ∙ (rw e at told)

@@ -1,3 +1,4 @@
 pub mod OnlyAll
+pub mod Lowest
 pub mod Beginnings
 pub mod Chains

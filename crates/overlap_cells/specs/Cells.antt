@@ -13,7 +13,7 @@ use Rattle.paper.specs.Match.{matches}
 use Rattle.overlap_cells.specs.declared.Firsts.{Firsts}
 use Rattle.overlap_cells.specs.declared.Firsts.the-variants.{Apart}
 use Rattle.overlap_cells.specs.declared.Chain.{Chain}
-use Rattle.overlap_cells.specs.Best.{comesFirst, firstsOf, bestWith, bestStack}
+use Rattle.overlap_cells.specs.Best.{comesFirst, commonFrame, firstsOf, bestWith, bestStack}
 
 -- the places in a pattern: of its elements, and its end
 abbrev pub places : ℕ
@@ -34,25 +34,25 @@ cells = lastCell + 1
 abbrev pub patternFrom : ℕ → List ℕ → List Element
 patternFrom i p = map elementIn (drop i p)
 
--- from place `end` on the pattern matches the empty stack, and before it does not
+-- from place `end` on the pattern matches the empty stack, and before it does not, whatever the functions
 unfoldable pub OnlyAllFrom : List ℕ → ℕ → Type 0
-OnlyAllFrom p end = (i : ℕ) → matches (patternFrom i p) [] ≡ leb end i
+OnlyAllFrom p end = (functions : List ℕ) (i : ℕ) → matches functions (patternFrom i p) [] ≡ leb end i
 
 -- the first elements of two patterns, where both have one
-unfoldable pub firstsFrom : (ℕ → Bool) → List Element → List Element → Firsts
-firstsFrom test [] Q = Apart
-firstsFrom test (a ∷ P) [] = Apart
-firstsFrom test (a ∷ P) (b ∷ Q) = firstsOf test a b (matches P [] && matches Q [])
+unfoldable pub firstsFrom : List ℕ → (ℕ → Bool) → List Element → List Element → Firsts
+firstsFrom functions test [] Q = Apart
+firstsFrom functions test (a ∷ P) [] = Apart
+firstsFrom functions test (a ∷ P) (b ∷ Q) = firstsOf functions test a b (matches functions P [] && matches functions Q [])
 
--- the words of two elements that are functions, and not one
-pub record Differ (a b : ℕ) : Type 0 where
+-- the words of two elements that are not `all`, and that no frame meets both
+pub record Differ (functions : List ℕ) (a b : ℕ) : Type 0 where
   pub one : a ≡ 0 → ⊥
   pub other : b ≡ 0 → ⊥
-  pub apart : a ≡ b → ⊥
+  pub apart : commonFrame functions (elementIn a) (elementIn b) ≡ []
 
--- no stack matches both patterns, whatever the functions and the domain of the top
-unfoldable pub NeverMeet : List ℕ → List ℕ → Type 0
-NeverMeet p q = (functions : List ℕ) (d : ℕ) → bestStack functions d (map elementIn p) (map elementIn q) ≡ []
+-- no stack matches both patterns, whatever the domain of its top
+unfoldable pub NeverMeet : List ℕ → List ℕ → List ℕ → Type 0
+NeverMeet functions p q = (d : ℕ) → bestStack functions d (map elementIn p) (map elementIn q) ≡ []
 
 -- n frames from cell c on
 unfoldable pub stackAt : List ℕ → List ℕ → ℕ → ℕ → List ℕ

@@ -1,15 +1,18 @@
 // What a cell of two patterns is made of: their first elements, and stacks as chains of cells, of which the better is told.
+use paper::element;
 use paper::limit;
 ghost use mathlib.Core.Path.{_≡_};
 ghost use mathlib.Core.Bool.{_&&_, cond};
-ghost use mathlib.Core.List.{List, []};
+ghost use mathlib.Core.List.{List, [], _∷_};
 ghost use Prim.Native.Nat.{ℕ, min, _+_, _/_, _%_, _≤_, _<_};
 ghost use lib.Dec.{leb};
 ghost use lib.ListN.{length};
 ghost use Rattle.paper.specs.Limits.{mostMembers};
-ghost use Rattle.paper.specs.Match.{matches};
+ghost use Rattle.paper.specs.Match.{liesIn, matches, isAll};
 ghost use Rattle.paper.specs.Table.{elementIn};
-ghost use Rattle.overlap_cells.specs.Best.{inDomain, lowerOrSame, comesFirst, better, inFront, firstsOf, alone, lowestIn};
+ghost use Rattle.laws.specs.Frames.{meetsFrame};
+ghost use Rattle.overlap_cells.specs.Best.{alone, lowestIn, lowestFrame, commonFrame, frameOf, InDomains, Lows, firstsOf};
+ghost use Rattle.overlap_cells.specs.Best.{lowerOrSame, comesFirst, better, inFront};
 ghost use Rattle.overlap_cells.specs.Cells.{places, filled, lastCell, cells, patternFrom, OnlyAllFrom, firstsFrom, stackAt};
 ghost use Rattle.overlap_cells.specs.Cells.{chainStack, cellStack, Short, Forward, NoStack};
 
@@ -47,6 +50,117 @@ pub fn may_end(one: usize, other: usize, k: usize) -> bool
     if one <= i { other <= j } else { false }
 }
 
+// The lowest function of each domain, or how many functions there are where it has none: worked out once for a report.
+pub fn lowest_functions(functions: &[u16]) -> [u16; limit::DOMAINS]
+    requires { ⌜ (length (now functions) ≤ mostMembers) × InDomains (now functions) ⌝ }
+    ensures { λ r. ⌜ Lows (now (functions .entry)) r ⌝ }
+{
+    let mut k = functions.len();
+    let mut lows = [k as u16; limit::DOMAINS];
+    while 0 < k {
+        k -= 1;
+        lows[functions[k] as usize] = k as u16;
+    }
+    lows
+}
+
+// The base frame that elements ask for, where there is one.
+pub enum Common {
+    At { function: u16 },
+    Nothing,
+}
+
+// Function f, where there is such a function.
+fn if_listed(f: u16, functions: &[u16]) -> Common
+    ensures { λ r. ⌜ frameOf r ≡ alone (now (functions .entry)) f ⌝ }
+{
+    if (f as usize) < functions.len() {
+        return Common::At { function: f };
+    }
+    Common::Nothing
+}
+
+// The lowest function in a domain.
+fn lowest_in(domain: usize, functions: &[u16], lows: &[u16]) -> Common
+    requires { ⌜ Lows (now functions) (now lows) ⌝ }
+    ensures { λ r. ⌜ frameOf r ≡ alone (now (functions .entry)) (lowestIn (now (functions .entry)) domain) ⌝ }
+{
+    if lows.len() <= domain {
+        return Common::Nothing;
+    }
+    if_listed(lows[domain], functions)
+}
+
+// The lowest frame that an element other than `all` meets.
+fn lowest_frame(e: u16, functions: &[u16], lows: &[u16]) -> Common
+    requires { ⌜ Lows (now functions) (now lows) ⌝ }
+    ensures { λ r. ⌜ frameOf r ≡ lowestFrame (now (functions .entry)) (elementIn e) ⌝ }
+{
+    if e == element::ALL {
+        return Common::Nothing;
+    }
+    if e < element::FIRST_DOMAIN {
+        return Common::At { function: e - 1 };
+    }
+    lowest_in((e - element::FIRST_DOMAIN) as usize, functions, lows)
+}
+
+fn lies_in(functions: &[u16], domain: u16, f: u16) -> bool
+    ensures { λ r. ⌜ r ≡ liesIn (now (functions .entry)) domain f ⌝ }
+{
+    let i = f as usize;
+    if functions.len() <= i {
+        return false;
+    }
+    functions[i] == domain
+}
+
+fn meets_frame(word: u16, f: u16, functions: &[u16]) -> bool
+    ensures { λ r. ⌜ r ≡ meetsFrame (now (functions .entry)) (elementIn word) f ⌝ }
+{
+    if word == element::ALL {
+        return true;
+    }
+    if word < element::FIRST_DOMAIN {
+        return word - 1 == f;
+    }
+    lies_in(functions, word - element::FIRST_DOMAIN, f)
+}
+
+// Function f, where the element of a word meets it.
+fn met_by(word: u16, f: u16, functions: &[u16]) -> Common
+    ensures { λ r. ⌜ frameOf r ≡ cond (meetsFrame (now (functions .entry)) (elementIn word) f) (f ∷ []) [] ⌝ }
+{
+    if meets_frame(word, f, functions) {
+        return Common::At { function: f };
+    }
+    Common::Nothing
+}
+
+// The lowest frame that two elements, one of them not `all`, both meet.
+pub fn common_frame(a: u16, b: u16, functions: &[u16], lows: &[u16]) -> Common
+    requires { ⌜ Lows (now functions) (now lows) ⌝ }
+    ensures { λ r. ⌜ frameOf r ≡ commonFrame (now (functions .entry)) (elementIn a) (elementIn b) ⌝ }
+{
+    if a == element::ALL {
+        return lowest_frame(b, functions, lows);
+    }
+    if a < element::FIRST_DOMAIN {
+        return met_by(b, a - 1, functions);
+    }
+    if b == element::ALL {
+        return lowest_frame(a, functions, lows);
+    }
+    if b < element::FIRST_DOMAIN {
+        return met_by(a, b - 1, functions);
+    }
+    // Two domains share functions only where they are one.
+    if a == b {
+        return lowest_frame(a, functions, lows);
+    }
+    Common::Nothing
+}
+
 // The first elements of two patterns, by the base frame that they ask for; alone: it may be the only frame.
 pub enum Firsts {
     BothAll { alone: bool },
@@ -56,46 +170,54 @@ pub enum Firsts {
     Apart,
 }
 
-// Function f may be the only frame, where one may be.
-fn may_be_alone(functions: &[u16], domain: u16, f: u16, last: bool) -> bool
-    ensures { λ r. ⌜ r ≡ (inDomain (now (functions .entry)) domain f && last) ⌝ }
+fn both_all(a: u16, b: u16) -> bool
+    ensures { λ r. ⌜ r ≡ (isAll (elementIn a) && isAll (elementIn b)) ⌝ }
 {
-    let i = f as usize;
-    if i < functions.len() {
-        if functions[i] == domain {
-            return last;
-        }
+    if a == element::ALL {
+        return b == element::ALL;
     }
     false
 }
 
-fn firsts_of(a: u16, b: u16, last: bool, functions: &[u16], domain: u16) -> Firsts
-    ensures { λ r. ⌜ r ≡ firstsOf (inDomain (now (functions .entry)) domain) (elementIn a) (elementIn b) last ⌝ }
+// Function f may be the only frame, where one may be.
+fn may_be_alone(functions: &[u16], domain: u16, f: u16, last: bool) -> bool
+    ensures { λ r. ⌜ r ≡ (liesIn (now (functions .entry)) domain f && last) ⌝ }
 {
-    if a == 0 {
-        if b == 0 {
-            return Firsts::BothAll { alone: last };
+    if last {
+        return lies_in(functions, domain, f);
+    }
+    false
+}
+
+fn firsts_of(a: u16, b: u16, last: bool, functions: &[u16], lows: &[u16], domain: u16) -> Firsts
+    requires { ⌜ Lows (now functions) (now lows) ⌝ }
+    ensures { λ r. ⌜ r ≡ firstsOf (now (functions .entry)) (liesIn (now (functions .entry)) domain) (elementIn a) (elementIn b) last ⌝ }
+{
+    if both_all(a, b) {
+        return Firsts::BothAll { alone: last };
+    }
+    match common_frame(a, b, functions, lows) {
+        Common::Nothing => Firsts::Apart,
+        Common::At { function } => {
+            let alone = may_be_alone(functions, domain, function, last);
+            if a == element::ALL {
+                return Firsts::OneAll {
+                    function: function,
+                    alone: alone,
+                };
+            }
+            if b == element::ALL {
+                return Firsts::OtherAll {
+                    function: function,
+                    alone: alone,
+                };
+            }
+            Firsts::Same {
+                function: function,
+                alone: alone,
+            }
         }
-        let alone = may_be_alone(functions, domain, b - 1, last);
-        return Firsts::OneAll {
-            function: b - 1,
-            alone: alone,
-        };
     }
-    let alone = may_be_alone(functions, domain, a - 1, last);
-    if b == 0 {
-        return Firsts::OtherAll {
-            function: a - 1,
-            alone: alone,
-        };
-    }
-    if a == b {
-        return Firsts::Same {
-            function: a - 1,
-            alone: alone,
-        };
-    }
-    Firsts::Apart
 }
 
 // The first elements of the patterns of cell k.
@@ -105,10 +227,12 @@ pub fn firsts_at(
     k: usize,
     last: bool,
     functions: &[u16],
+    lows: &[u16],
     domain: u16,
 ) -> Firsts
-    requires { ⌜ last ≡ (matches (patternFrom (k / places + 1) (now p)) [] && matches (patternFrom (k % places + 1) (now q)) []) ⌝ }
-    ensures { λ r. ⌜ r ≡ firstsFrom (inDomain (now (functions .entry)) domain) (patternFrom (k / places) (now (p .entry))) (patternFrom (k % places) (now (q .entry))) ⌝ }
+    requires { ⌜ Lows (now functions) (now lows) ⌝ }
+    requires { ⌜ last ≡ (matches (now functions) (patternFrom (k / places + 1) (now p)) [] && matches (now functions) (patternFrom (k % places + 1) (now q)) []) ⌝ }
+    ensures { λ r. ⌜ r ≡ firstsFrom (now (functions .entry)) (liesIn (now (functions .entry)) domain) (patternFrom (k / places) (now (p .entry))) (patternFrom (k % places) (now (q .entry))) ⌝ }
 {
     let i = k / PLACES;
     let j = k % PLACES;
@@ -118,7 +242,7 @@ pub fn firsts_at(
     if q.len() <= j {
         return Firsts::Apart;
     }
-    firsts_of(p[i], q[j], last, functions, domain)
+    firsts_of(p[i], q[j], last, functions, lows, domain)
 }
 
 // A stack of so many frames: its base, and the cell at which the rest of it begins.
@@ -139,23 +263,19 @@ pub fn no_stack() -> Chain
 }
 
 // The lowest function in the domain alone.
-pub fn lowest_alone(functions: &[u16], domain: u16) -> Chain
-    requires { ⌜ length (now functions) ≤ mostMembers ⌝ }
+pub fn lowest_alone(functions: &[u16], lows: &[u16], domain: u16) -> Chain
+    requires { ⌜ Lows (now functions) (now lows) ⌝ }
     ensures { λ r. ⌜ ((bases rests : List ℕ) → chainStack bases rests r ≡ alone (now (functions .entry)) (lowestIn (now (functions .entry)) domain)) ⌝ }
     ensures { λ r. ⌜ r .rest ≡ lastCell ⌝ }
 {
-    let mut i: usize = 0;
-    while i < functions.len() {
-        if functions[i] == domain {
-            return Chain {
-                frames: 1,
-                base: i as u16,
-                rest: LAST,
-            };
-        }
-        i += 1;
+    match lowest_in(domain as usize, functions, lows) {
+        Common::Nothing => no_stack(),
+        Common::At { function } => Chain {
+            frames: 1,
+            base: function,
+            rest: LAST,
+        },
     }
-    no_stack()
 }
 
 // Of the n frames from cell a on and the n frames from cell b on: the first are not above the second.

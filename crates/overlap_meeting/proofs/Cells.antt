@@ -10,12 +10,13 @@ use lib.ListN.{length, getD, drop, set, length-drop, length-map}
 use lib.Seq.{getD-set-same, getD-set-other, drop-drop}
 use Rattle.paper.specs.Limits.{mostElements, witnessWords}
 use Rattle.paper.specs.Policy.{Element}
+use Rattle.paper.specs.Match.{liesIn}
 use Rattle.paper.specs.Table.{elementIn}
 use Rattle.laws.proofs.Tests.{le-or-lt, same-or-not}
 use Rattle.laws.proofs.Elements.{at-end}
 use Rattle.overlap_cells.specs.declared.Firsts.{Firsts}
 use Rattle.overlap_cells.specs.declared.Firsts.the-variants.{BothAll, OneAll, OtherAll, Same, Apart}
-use Rattle.overlap_cells.specs.Best.{better, inFront, bestWith, row, bestBy, comesFirst, inDomain, lowestIn, alone, bestStack}
+use Rattle.overlap_cells.specs.Best.{better, inFront, bestWith, row, bestBy, comesFirst, lowestIn, alone, bestStack}
 use Rattle.overlap_cells.specs.Cells.{places, filled, cells, patternFrom, firstsFrom, stackAt, stackOf, cellStack, fromCells, Forward, Filled}
 use Rattle.overlap_meeting.proofs.Order.{best-short}
 use Rattle.overlap_cells.proofs.Chains.{cell-read, chain-length}
@@ -50,7 +51,7 @@ module _ (low both one other r : List ℕ) (x : Firsts) where
 -- ---- the best stack, one place on
 best-step : (F : List ℕ) (d : ℕ) (P Q : List Element) →
     bestStack F d P Q
-    ≡ bestWith comesFirst (alone F (lowestIn F d)) (firstsFrom (inDomain F d) P Q) (bestStack F d (drop 1 P) (drop 1 Q)) (bestStack F d (drop 1 P) Q) (bestStack F d P (drop 1 Q))
+    ≡ bestWith comesFirst (alone F (lowestIn F d)) (firstsFrom F (liesIn F d) P Q) (bestStack F d (drop 1 P) (drop 1 Q)) (bestStack F d (drop 1 P) Q) (bestStack F d P (drop 1 Q))
 unfolding bestStack bestBy row firstsFrom bestWith
 best-step F d [] Q = refl
 best-step F d (a ∷ P) [] = refl
@@ -69,7 +70,7 @@ module _ (F : List ℕ) (d : ℕ) (P Q : List ℕ) where
   from i j = bestStack F d (patternFrom i P) (patternFrom j Q)
 
   abbrev firsts : ℕ → ℕ → Firsts
-  firsts i j = firstsFrom (inDomain F d) (patternFrom i P) (patternFrom j Q)
+  firsts i j = firstsFrom F (liesIn F d) (patternFrom i P) (patternFrom j Q)
 
   from-step : (i j : ℕ) → from i j ≡ bestWith comesFirst (alone F (lowestIn F d)) (firsts i j) (from (i + 1) (j + 1)) (from (i + 1) j) (from i (j + 1))
   from-step i j = rw (← (pattern-tail P i), ← (pattern-tail Q j)) (best-step F d (patternFrom i P) (patternFrom j Q))
@@ -83,7 +84,7 @@ module _ (F : List ℕ) (d : ℕ) (P Q : List ℕ) where
       let v′ = length-drop j Q in
       omega arith
 
-  pub apart-none : (i j : ℕ) → firsts i j ≡ Apart → from i j ≡ []
+  apart-none : (i j : ℕ) → firsts i j ≡ Apart → from i j ≡ []
   unfolding bestWith
   apart-none i j e = rw (from-step i j, e)
 
@@ -100,7 +101,7 @@ module _ (F : List ℕ) (d : ℕ) (P Q L B R : List ℕ) (k : ℕ) (after : Fill
     where
       at-end-of-row : mostElements ≤ k % places → r ≡ from F d P Q (k / places) (k % places)
       at-end-of-row h =
-          let n : firsts F d P Q (k / places) (k % places) ≡ Apart = sym (other-ended (inDomain F d) P Q (k / places) (k % places) (omega arith)) in
+          let n : firsts F d P Q (k / places) (k % places) ≡ Apart = sym (other-ended F (liesIn F d) P Q (k / places) (k % places) (omega arith)) in
           g ∙ (rw (e, n) (sym (apart-none F d P Q (k / places) (k % places) n)))
 
       inside-row : k % places < mostElements → r ≡ from F d P Q (k / places) (k % places)
@@ -171,7 +172,7 @@ module _ (F : List ℕ) (d : ℕ) (P Q L B R : List ℕ) (k : ℕ) (so-far : Fil
 
   pub cell-filled : (x : Firsts) (low : List ℕ) (n h c : ℕ) → 0 < k → k ≤ filled → length P ≤ mostElements → length Q ≤ mostElements →
       length L ≡ cells → length B ≡ cells → length R ≡ cells →
-      x ≡ firstsFrom (inDomain F d) (patternFrom ((k - 1) / places) P) (patternFrom ((k - 1) % places) Q) → low ≡ alone F (lowestIn F d) →
+      x ≡ firstsFrom F (liesIn F d) (patternFrom ((k - 1) / places) P) (patternFrom ((k - 1) % places) Q) → low ≡ alone F (lowestIn F d) →
       stackOf B R n h c ≡ fromCells x low L B R (k - 1) → k - 1 < c → c < cells →
       Filled F d P Q (set L (k - 1) n) (set B (k - 1) h) (set R (k - 1) c) (k - 1)
   cell-filled x low n h c l m hp hq hl hb hr e f g far inside =

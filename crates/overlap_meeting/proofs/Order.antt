@@ -1,20 +1,20 @@
 -- The order on stacks, and the best stack by it: sound, complete, least, short.
-use Prim.Native.Nat.{ℕ, zero, suc, _+_, _<_, _≤_}
+use Prim.Native.Nat.{ℕ, suc, _<_, _≤_}
 use native.Mathlib.Omega.{arith}
-use native.Mathlib.Numerals.{add-one}
 use native.Mathlib.Nat.{eq-or-lt-of-le}
 use mathlib.Core.Logic.{_⊎_, inl, inr, ⊎-elim}
-use mathlib.Core.Path.{_≡_, refl, sym, ap, _∙_}
+use mathlib.Core.Path.{_≡_, refl, sym, ap, subst, _∙_}
 use mathlib.Core.Bool.{Bool, true, false, _&&_, cond, false≢true}
 use mathlib.Core.List.{List, [], _∷_}
-use lib.ListN.{length, getD}
+use lib.ListN.{length}
 use lib.Dec.{eqb, ltb}
-use borrow.Author.Tests.{eqb-true, eqb-false, eq-eqb, ltb-true, ltb-false, lt-ltb}
+use borrow.Author.Tests.{eqb-true, eqb-false, ltb-true, ltb-false}
 use Rattle.paper.specs.Policy.{Element, all}
-use Rattle.paper.specs.Match.{matches}
+use Rattle.paper.specs.Match.{liesIn, matches}
 use Rattle.paper.specs.Overlap.{NotAbove, NotAfter}
-use Rattle.laws.proofs.Tests.{le-or-lt, both-true, both-of, either-of, neither-left, neither-right}
-use Rattle.overlap_cells.specs.Best.{mostNeeded, topPasses, Meet, lowerOrSame, comesFirst, inDomain, alone, lowestIn, bestStack}
+use Rattle.laws.proofs.Tests.{both-of, either-of, neither-left, neither-right}
+use Rattle.overlap_cells.specs.Best.{mostNeeded, topPasses, Meet, lowerOrSame, comesFirst, alone, lowestIn, bestStack}
+use Rattle.overlap_meeting.proofs.Common.{lowest-lies, lowest-below, lowest-listed, one-domain}
 use Rattle.overlap_meeting.proofs.Best.{Some, Good, AtMost, sound, short, least, all-keep, all-none}
 
 lower-true : (u v : List ℕ) → lowerOrSame u v ≡ true → NotAbove u v
@@ -45,6 +45,11 @@ above-chain (x ∷ u) (y ∷ v) (z ∷ w) h k =
     ⊎-elim (λ l. ⊎-elim (λ m. inl (omega arith)) (λ m. inl (let e = m .0 in omega arith)) k)
     (λ l. ⊎-elim (λ m. inl (let e = l .0 in omega arith)) (λ m. inr (l .0 ∙ m .0, above-chain u v w (l .1) (m .1))) k) h
 
+above-same : (u : List ℕ) → NotAbove u u
+unfolding NotAbove
+above-same [] = tt
+above-same (x ∷ u) = inr (refl, above-same u)
+
 -- ---- of stacks
 pub after-chain : (u v w : List ℕ) → NotAfter u v → NotAfter v w → NotAfter u w
 unfolding NotAfter
@@ -67,34 +72,13 @@ unfolding NotAfter NotAbove
 after-alone a [] = inr (refl, inr (refl, tt))
 after-alone a (y ∷ w) = inl (omega arith)
 
+after-lower : (x y : ℕ) (w : List ℕ) → x ≤ y → NotAfter (x ∷ w) (y ∷ w)
+unfolding NotAfter NotAbove
+after-lower x y w h = inr (refl, ⊎-elim (λ e. inr (e, above-same w)) (λ l. inl l) (eq-or-lt-of-le h))
+
 pub after-longer : (x : ℕ) (w : List ℕ) → NotAfter w (x ∷ w)
 unfolding NotAfter NotAbove
 after-longer x w = inl (omega arith)
-
-domain-split : (F : List ℕ) (d x : ℕ) → inDomain F d x ≡ true → (x < length F) × (getD F x 0 ≡ d)
-unfolding inDomain
-domain-split F d x h = let k = both-of (ltb x (length F)) (eqb (getD F x 0) d) h in (ltb-true x (length F) (k .0), eqb-true (getD F x 0) d (k .1))
-
--- x is the lowest function in domain d, or there is none and x is past the end
-pub record Lowest (F : List ℕ) (d x : ℕ) : Type 0 where
-  pub listed : x < length F → getD F x 0 ≡ d
-  pub least : (y : ℕ) → y < x → getD F y 0 ≡ d → ⊥
-
-below-none : {x : ℕ} → x < 0 → ⊥
-below-none {x} l = omega arith
-
-lowest-in : (F : List ℕ) (d : ℕ) → Lowest F d (lowestIn F d)
-unfolding lowestIn
-lowest-in [] d = record { listed = λ l. absurd (below-none l); least = λ y l e. absurd (below-none l) }
-lowest-in (x ∷ F) d = go (lowest-in F d) (eqb x d) refl
-  where
-    go : Lowest F d (lowestIn F d) → (t : Bool) → eqb x d ≡ t → Lowest (x ∷ F) d (cond t 0 (lowestIn F d + 1))
-    go rest true e = record { listed = λ _. eqb-true x d e; least = λ y l f. absurd (below-none l) }
-    go rest false e = rw add-one (record { listed = λ l. rest .listed (omega arith); least = before rest e })
-      where
-        before : Lowest F d (lowestIn F d) → eqb x d ≡ false → (y : ℕ) → y < suc (lowestIn F d) → getD (x ∷ F) y 0 ≡ d → ⊥
-        before rest e zero l f = eqb-false x d e f
-        before rest e (suc y) l f = rest .least y (omega arith) f
 
 alone-short : (F : List ℕ) (f : ℕ) → length (alone F f) ≤ 1
 unfolding alone
@@ -104,55 +88,51 @@ alone-short F f = go (ltb f (length F))
     go true = omega arith
     go false = omega arith
 
-module _ (F : List ℕ) (d low : ℕ) (lowest : Lowest F d low) where
-  low-least : (x : ℕ) → inDomain F d x ≡ true → Some (alone F low) × NotAfter (alone F low) (x ∷ [])
-  unfolding alone NotAfter NotAbove
-  low-least x h = go (le-or-lt low x) (domain-split F d x h)
-    where
-      go : (low ≤ x) ⊎ (x < low) → (x < length F) × (getD F x 0 ≡ d) → Some (alone F low) × NotAfter (alone F low) (x ∷ [])
-      go (inl l) k = rw (lt-ltb low (length F) (omega arith)) (tt, inr (refl, ⊎-elim (λ e. inr (e, tt)) (λ m. inl m) (eq-or-lt-of-le l)))
-      go (inr l) k = absurd (lowest .least x l (k .1))
-
-  low-good : Some (alone F low) → (P Q : List Element) → matches P [] ≡ true → matches Q [] ≡ true → Meet (inDomain F d) (all ∷ P) (all ∷ Q) (alone F low)
-  unfolding alone inDomain topPasses
-  low-good s P Q m n = go (ltb low (length F)) refl s
-    where
-      go : (t : Bool) → ltb low (length F) ≡ t → Some (cond t (low ∷ []) []) → Meet (inDomain F d) (all ∷ P) (all ∷ Q) (cond t (low ∷ []) [])
-      go true e s = record {
-        one = all-keep low P [] (all-none P ∙ m);
-        other = all-keep low Q [] (all-none Q ∙ n);
-        top = both-true (ltb low (length F)) (eqb (getD F low 0) d) e (eq-eqb (getD F low 0) d (lowest .listed (ltb-true low (length F) e)));
-      }
-      go false e s = absurd s
-
--- ---- the best stack of two patterns
-module _ (F : List ℕ) (d : ℕ) (P Q : List Element) where
+module _ (F : List ℕ) (d : ℕ) where
+  -- the lowest function of the domain, alone
   abbrev low : List ℕ
   low = alone F (lowestIn F d)
 
+  low-least : (x : ℕ) → liesIn F d x ≡ true → Some low × NotAfter low (x ∷ [])
+  unfolding alone
+  low-least x h = rw (lowest-listed F d x h) (tt, after-lower (lowestIn F d) x [] (lowest-below F d x h))
+
+  low-good : Some low → (P Q : List Element) → matches F P [] ≡ true → matches F Q [] ≡ true → Meet F (liesIn F d) (all ∷ P) (all ∷ Q) low
+  unfolding alone topPasses
+  low-good s P Q m n = go (ltb (lowestIn F d) (length F)) refl s
+    where
+      go : (t : Bool) → ltb (lowestIn F d) (length F) ≡ t → Some (cond t (lowestIn F d ∷ []) []) → Meet F (liesIn F d) (all ∷ P) (all ∷ Q) (cond t (lowestIn F d ∷ []) [])
+      go true e s = record {
+        one = all-keep F (lowestIn F d) P [] (all-none F P ∙ m);
+        other = all-keep F (lowestIn F d) Q [] (all-none F Q ∙ n);
+        top = lowest-lies F d e;
+      }
+      go false e s = absurd s
+
+  -- functions of one domain lie in domain d together
+  lie-alike : (e x y : ℕ) → liesIn F e x ≡ true → liesIn F e y ≡ true → liesIn F d y ≡ true → liesIn F d x ≡ true
+  lie-alike e x y h k l = subst (λ (z : ℕ). liesIn F z x ≡ true) (one-domain F e d y k l) h
+
+-- ---- the best stack of two patterns
+module _ (F : List ℕ) (d : ℕ) (P Q : List Element) where
   -- it needs no more frames than the lengths of the patterns ask for
   pub best-short : length (bestStack F d P Q) ≤ mostNeeded (length P) (length Q)
   unfolding bestStack
-  best-short = short comesFirst (inDomain F d) low (alone-short F (lowestIn F d)) P Q (mostNeeded (length P) (length Q)) (omega arith) (omega arith) (omega arith)
+  best-short = short F comesFirst (liesIn F d) (low F d) (alone-short F (lowestIn F d)) P Q (mostNeeded (length P) (length Q)) (omega arith) (omega arith) (omega arith)
 
   -- both patterns meet in what is found
-  pub best-sound : Some (bestStack F d P Q) → Meet (inDomain F d) P Q (bestStack F d P Q)
+  pub best-sound : Some (bestStack F d P Q) → Meet F (liesIn F d) P Q (bestStack F d P Q)
   unfolding bestStack Good
-  best-sound s = sound comesFirst (inDomain F d) low (low-good F d (lowestIn F d) (lowest-in F d)) P Q s
+  best-sound s = sound F comesFirst (liesIn F d) (low F d) (low-good F d) P Q s
 
   -- where they meet, a stack is found that comes no later
-  pub best-least : (w : List ℕ) → Meet (inDomain F d) P Q w → Some (bestStack F d P Q) × NotAfter (bestStack F d P Q) w
+  pub best-least : (w : List ℕ) → Meet F (liesIn F d) P Q w → Some (bestStack F d P Q) × NotAfter (bestStack F d P Q) w
   unfolding bestStack AtMost
   best-least w c =
-      least comesFirst (inDomain F d) low NotAfter after-chain after-true after-false after-front after-alone after-longer
-      (low-least F d (lowestIn F d) (lowest-in F d)) P Q w c
+      least F comesFirst (liesIn F d) (low F d) NotAfter after-chain after-true after-false after-front after-alone after-longer after-lower (lie-alike F d)
+      (low-least F d) P Q w c
 
 -- ---- a stack itself, and the length of one that does not come after another
-above-same : (u : List ℕ) → NotAbove u u
-unfolding NotAbove
-above-same [] = tt
-above-same (x ∷ u) = inr (refl, above-same u)
-
 pub after-same : (u : List ℕ) → NotAfter u u
 unfolding NotAfter
 after-same u = above-same (length u ∷ u)

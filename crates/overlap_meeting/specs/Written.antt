@@ -3,14 +3,13 @@ use Prim.Native.Nat.{ℕ, _≤_}
 use mathlib.Core.Path.{_≡_}
 use mathlib.Core.List.{List}
 use lib.ListN.{length}
-use Rattle.paper.specs.Limits.{mostElements, mostMembers, witnessWords}
+use Rattle.paper.specs.Limits.{mostElements, witnessWords}
 use Rattle.paper.specs.Overlap.{witnessLeft}
 
--- the words of two patterns and the functions are within the limits, and the witness has room
-pub record Fits (p q functions witness : List ℕ) : Type 0 where
+-- the words of two patterns are within the limits, and the witness has room
+pub record Fits (p q witness : List ℕ) : Type 0 where
   pub one : length p ≤ mostElements
   pub other : length q ≤ mostElements
-  pub listed : length functions ≤ mostMembers
   pub room : witnessWords ≤ length witness
 
 -- the witness holds the stack, which has r frames

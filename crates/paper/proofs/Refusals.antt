@@ -123,8 +123,8 @@ values =
     ∷ entry "  can_read:\n  - objects: [all]\n" 5 11
     ∷ entry "    execution_context: some\n" 4 10
     ∷ context "      call_context: all\n" 4 11
-    ∷ context "      call_context: [any]\n" 5 11
-    ∷ context "      call_context: [B]\n" 5 11
+    ∷ context "      call_context: [any]\n" 8 11
+    ∷ context "      call_context: [B]\n" 0 0
     ∷ context "      gid: root\n" 5 11
     ∷ context "      uid: any\n" 0 0
     ∷ context "      uid: 0\n      gid: _\n" 0 0

@@ -6,8 +6,9 @@ use mathlib.Core.Bool.{Bool, true, false, cond}
 use mathlib.Core.List.{List, [], _∷_, _++_, map, flatMap}
 use lib.ListN.{replicate}
 use Rattle.paper.specs.declared.Kind.the-variants.{Subject, Object}
+use Rattle.paper.specs.declared.Scalar.the-variants.{PatternElement}
 use Rattle.paper.specs.Common.{bytes}
-use Rattle.paper.specs.Scalars.{isDomainName, isVariable, isUid, isGid, isIdentifier, isLineNumber}
+use Rattle.paper.specs.Scalars.{isDomainName, isVariable, isUid, isGid, isIdentifier, isLineNumber, isScalar}
 use Rattle.paper.proofs.Computing.{computing}
 
 -- "GLOBAL and IO need path, line, name; HEAP and STACK_REGION path and line, name empty; STACK_FRAME path and name, line empty; OTHER any of the three, or none":
@@ -85,3 +86,11 @@ words-that-are-not-free :
     ∷ []
 unfolding computing
 words-that-are-not-free = refl
+
+-- an element of a pattern: `all`, a function, or a domain name, "5 covers the element's form" (document 02 d)
+elements-of-a-pattern :
+    map (λ s. isScalar PatternElement (bytes s)) ("all" ∷ "f|g" ∷ "B" ∷ "any" ∷ "root" ∷ "" ∷ "f|" ∷ "|g" ∷ "f|g|h" ∷ "a-b" ∷ "a/b" ∷ "[B" ∷ [])
+    ++ map (isScalar PatternElement) (long 64 ∷ long 65 ∷ [])
+    ≡ (true ∷ true ∷ true ∷ true ∷ true ∷ replicate 7 false) ++ (true ∷ false ∷ [])
+unfolding computing
+elements-of-a-pattern = refl

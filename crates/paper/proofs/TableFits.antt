@@ -95,13 +95,17 @@ fits test ws i v = test (set ws (6 + i) v) 6
 
 contexts-that-fit :
     contextFits context 6
-    -- 16 elements, the last of them a function; uid and gid of their last sort; the highest function
+    -- 16 elements, the last of them a function; uid and gid of their last sort; the highest function, the lowest and the highest subject domain
     ∷ fits contextFits (set context (6 + 0) 16) 19 5
     ∷ fits contextFits context 1 3
     ∷ fits contextFits context 2 0
     ∷ fits contextFits context 6 5
+    ∷ fits contextFits context 4 1025
+    ∷ fits contextFits context 6 1027
+    -- the last of 1,024 functions
+    ∷ fits contextFits (set context 4 1024) 4 1024
     ∷ []
-    ≡ true ∷ true ∷ true ∷ true ∷ true ∷ []
+    ≡ replicate 8 true
 unfolding computing
 contexts-that-fit = refl
 
@@ -119,8 +123,15 @@ contexts-with-one-fault :
     -- a function not below the count, first and last
     ∷ fits contextFits context 4 6
     ∷ fits contextFits context 6 6
+    -- a subject domain not below the count, in any place; one where an element is unused
+    ∷ fits contextFits context 4 1028
+    ∷ fits contextFits context 6 65535
+    ∷ fits contextFits context 7 1025
+    -- the last function of all and the first domain, where there are none
+    ∷ fits contextFits context 4 1024
+    ∷ fits contextFits (set context 2 0) 4 1025
     ∷ []
-    ≡ replicate 9 false
+    ≡ replicate 14 false
 unfolding computing
 contexts-with-one-fault = refl
 

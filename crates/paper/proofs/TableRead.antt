@@ -6,7 +6,7 @@ use mathlib.Core.List.{List, [], _∷_, _++_, map}
 use lib.ListN.{getD, replicate}
 use Rattle.paper.specs.Common.{countUp}
 use Rattle.paper.specs.Scalars.{anyone, variable, root, user}
-use Rattle.paper.specs.Policy.{all, fn, every, these}
+use Rattle.paper.specs.Policy.{all, fn, anyIn, every, these}
 use Rattle.paper.specs.Overlap.{entryOfPolicy}
 use Rattle.paper.specs.Table.{objectDomainCount, subjectDomainCount, objectCount, functionCount, entryCount, objectDomainsIn, functionDomainsIn}
 use Rattle.paper.specs.Table.{contextIn, grantIn, isIn, withDomain, descriptorIn, firstDescriptor, entryIn, policyIn}
@@ -50,7 +50,7 @@ entry-is ws k = refl
 descriptors-read :
     map (descriptorIn workedWords) (2 ∷ 4 ∷ [])
     ≡ item every (context (all ∷ []) anyone variable)
-    ∷ item (these (false ∷ false ∷ true ∷ true ∷ [])) (context (fn 2 ∷ fn 3 ∷ []) user variable)
+    ∷ item (these (false ∷ false ∷ true ∷ true ∷ [])) (context (anyIn 2 ∷ fn 3 ∷ []) user variable)
     ∷ []
 unfolding computing
 descriptors-read = refl

@@ -4,6 +4,7 @@ use Prim.Native.String.{String}
 use mathlib.Core.Path.{_≡_, refl}
 use mathlib.Core.Bool.{Bool, true, false}
 use mathlib.Core.List.{List, [], _∷_, _++_, map}
+use lib.ListN.{replicate}
 use Rattle.paper.specs.Common.{bytes}
 use Rattle.paper.specs.Listing.{principal, subjectOfEntry, executionContext, canCall, canRead, callContextIn, uidIn, gidIn}
 use Rattle.paper.specs.Page.{Field}
@@ -41,6 +42,10 @@ told-apart :
     ∷ pair (pattern "[f|g]") (pattern "[f|h]")
     ∷ pair (pattern "[all]") (pattern "[all, all]")
     ∷ pair (pattern "[f|g, all]") (pattern "[all, f|g]")
+    -- "Principals stay compared as written" (document 02 d): a domain, and its only function
+    ∷ pair (pattern "[B]") (pattern "[f|g]")
+    ∷ pair (pattern "[B]") (pattern "[C]")
+    ∷ pair (pattern "[B]") (pattern "[all]")
     ∷ pair (uid "all") (uid "U")
     ∷ pair (uid "all") (uid "root")
     ∷ pair (uid "user") (uid "all")
@@ -50,7 +55,7 @@ told-apart :
     ∷ pair (gid "all") (gid "G")
     ∷ pair (uid "U") (gid "U")
     ∷ [])
-    ≡ false ∷ false ∷ false ∷ false ∷ false ∷ false ∷ false ∷ false ∷ false ∷ false ∷ false ∷ false ∷ []
+    ≡ replicate 15 false
 unfolding computing
 told-apart = refl
 
@@ -61,7 +66,7 @@ one-principal :
     ∷ pair (uid "root") (uid "root" ++ gid "all")
     ∷ pair (uid "user") (uid "user")
     ∷ pair (uid "U" ++ gid "G") (uid "V" ++ gid "H")
-    ∷ pair (pattern "[f|h, all]") (pattern "[f|h, all]")
+    ∷ pair (pattern "[f|h, B, all]") (pattern "[f|h, B, all]")
     ∷ pair (at canCall (bytes "[B]") 3 ∷ at canRead [] 4 ∷ []) (at canCall (bytes "all") 11 ∷ [])
     ∷ [])
     ≡ true ∷ true ∷ true ∷ true ∷ true ∷ true ∷ []

@@ -38,6 +38,22 @@ functions =
     ∷ contextOf (bytes "      call_context: [f|g]\n" ++ (reading "      call_context: [f|g, all]\n" ++ writing "      call_context: [all, f|g]\n")) 0 0
     ∷ []
 
+-- "An element may now also be a subject domain name .. 8 an unknown one" (document 02 d)
+abbrev elements : List Trial
+elements =
+    contextOf (bytes "      call_context: [B, f|g, all]\n" ++ (reading "      call_context: [f|g, B]\n" ++ writing "      call_context: [B]\n")) 0 0
+    ∷ context "      call_context: [any]\n" 8 11
+    ∷ context "      call_context: [all, BB]\n" 8 11
+    -- a domain of the object map is not in this one
+    ∷ context "      call_context: [A]\n" 8 11
+    ∷ entryOf (reading "      call_context: [B, A]\n") 8 13
+    ∷ entryOf (writing "      call_context: [Z, B]\n") 8 13
+    ∷ []
+
+domain-in-a-pattern : computed elements ≡ claimed elements
+unfolding computing
+domain-in-a-pattern = refl
+
 function-its-map-lacks : computed functions ≡ claimed functions
 unfolding computing
 function-its-map-lacks = refl

@@ -75,12 +75,15 @@ jumps =
     -- entry 1 has every field omitted
     ∷ jump calls 5 (moment (0 ∷ []) 0 0) (Granted 1)
     ∷ jump returns 7 (moment (0 ∷ 1 ∷ []) 3 3) (Granted 1)
-    -- `uid: root` is 0 alone, and `can_call: all`; recv alone lacks the init of entry 4
+    -- `uid: root` is 0 alone, and `can_call: all`; recv alone lacks the frame of Boot of entry 4
     ∷ jump calls 4 (moment (5 ∷ []) 0 7) (Granted 3)
     ∷ jump calls 4 (moment (5 ∷ []) 1 7) (Violation 3)
-    -- `uid: user` is all but 0, init stands in the middle, and Ctl is in the `can_return`
+    -- `uid: user` is all but 0, init, of Boot, stands in the middle, and Ctl is in the `can_return`
     ∷ jump returns 4 (moment (0 ∷ 1 ∷ 2 ∷ 5 ∷ []) 1 7) (Granted 4)
     ∷ jump returns 6 (moment (0 ∷ 1 ∷ 2 ∷ 5 ∷ []) 1 7) (Violation 4)
+    -- main is of Boot too; push is not, nor is an unlisted frame
+    ∷ jump returns 4 (moment (0 ∷ 5 ∷ []) 1 7) (Granted 4)
+    ∷ jump returns 4 (moment (2 ∷ 9 ∷ 5 ∷ []) 1 7) (Violation 3)
     ∷ jump calls 4 (moment (0 ∷ 1 ∷ 2 ∷ 5 ∷ []) 1 7) (Violation 4)
     -- as root entry 3 matches, whose bare `can_return` grants nothing
     ∷ jump returns 4 (moment (0 ∷ 1 ∷ 2 ∷ 5 ∷ []) 0 7) (Violation 4)
@@ -113,11 +116,15 @@ accesses =
     ∷ access reads 5 step (moment (99 ∷ []) 3 3) (Granted 0)
     ∷ access reads 6 step static (Granted 0)
     ∷ access reads 0 step static (Violation 4)
-    -- it writes Heaps that root allocated, and with Misc those that [push, pop] did for a user of its gid
+    -- it writes Heaps that root allocated, and with Misc those that pop under a function of Ctl did for a user of its gid
     ∷ access writes 3 step (moment (9 ∷ []) 0 1) (Granted 0)
     ∷ access writes 3 step (moment (9 ∷ []) 1 7) (Violation 4)
     ∷ access writes 3 step (moment (2 ∷ 3 ∷ []) 8 7) (Granted 0)
     ∷ access writes 6 step (moment (2 ∷ 3 ∷ []) 8 7) (Granted 0)
+    ∷ access writes 6 step (moment (4 ∷ 3 ∷ []) 8 7) (Granted 0)
+    -- one frame of Ctl, and not of another domain
+    ∷ access writes 6 step (moment (2 ∷ 4 ∷ 3 ∷ []) 8 7) (Violation 4)
+    ∷ access writes 6 step (moment (0 ∷ 3 ∷ []) 8 7) (Violation 4)
     ∷ access writes 6 step (moment (2 ∷ 3 ∷ []) 0 7) (Violation 4)
     ∷ access writes 3 step (moment (2 ∷ 3 ∷ []) 8 8) (Violation 4)
     ∷ access writes 3 step (moment (2 ∷ 9 ∷ 3 ∷ []) 8 7) (Violation 4)

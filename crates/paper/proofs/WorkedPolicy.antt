@@ -3,7 +3,7 @@ use mathlib.Core.Path.{_≡_, refl}
 use mathlib.Core.Bool.{true, false}
 use mathlib.Core.List.{List, [], _∷_}
 use Rattle.paper.specs.Scalars.{Sort, anyone, variable, root, user}
-use Rattle.paper.specs.Policy.{Element, all, fn, Context, Descriptor, Policy, Grant, every, these}
+use Rattle.paper.specs.Policy.{Element, all, fn, anyIn, Context, Descriptor, Policy, Grant, every, these}
 use Rattle.paper.specs.Promises.{fileOf}
 use Rattle.paper.proofs.Computing.{computing}
 use Rattle.paper.proofs.Example.{policyRead}
@@ -43,7 +43,7 @@ workedPolicy =
                 ∷ [];
             writes =
                 item (these (false ∷ false ∷ true ∷ false ∷ [])) (context (all ∷ []) root anyone)
-                ∷ item (these (false ∷ false ∷ true ∷ true ∷ [])) (context (fn 2 ∷ fn 3 ∷ []) user variable)
+                ∷ item (these (false ∷ false ∷ true ∷ true ∷ [])) (context (anyIn 2 ∷ fn 3 ∷ []) user variable)
                 ∷ item (these (false ∷ false ∷ false ∷ false ∷ [])) anyContext
                 ∷ item (these (false ∷ false ∷ false ∷ false ∷ [])) anyContext
                 ∷ [];
@@ -73,7 +73,7 @@ workedPolicy =
             writes = item every anyContext ∷ [];
           }
           ∷ record {
-            context = context (all ∷ fn 1 ∷ all ∷ fn 5 ∷ []) user anyone;
+            context = context (all ∷ anyIn 0 ∷ all ∷ fn 5 ∷ []) user anyone;
             subject = 3;
             calls = these (false ∷ false ∷ false ∷ false ∷ false ∷ []);
             returns = these (false ∷ false ∷ true ∷ false ∷ false ∷ []);

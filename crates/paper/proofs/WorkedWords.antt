@@ -12,7 +12,7 @@ use Rattle.paper.proofs.WorkedPolicy.{workedPolicy}
 abbrev upTo : ℕ → List ℕ → List ℕ
 upTo n ws = ws ++ replicate (n - length ws) 0
 
--- a context, 20 words: how many elements, uid (0 `all`, 1 a variable, 2 `root`, 3 `user`), gid, and the elements, 0 for `all` and n + 1 for function n
+-- a context, 20 words: how many elements, uid (0 `all`, 1 a variable, 2 `root`, 3 `user`), gid, and the elements, 0 for `all`, n + 1 for function n and 1,025 + d for subject domain d
 abbrev context : ℕ → ℕ → ℕ → List ℕ → List ℕ
 context elements uid gid pattern = upTo 20 (elements ∷ uid ∷ gid ∷ 0 ∷ pattern)
 
@@ -41,8 +41,8 @@ entries =
     ++ (entry anyContext 0 1 1 every every
     ++ (entry anyContext 2 0 0 (domains 0) (domains 0)
     ++ (entry (context 1 2 0 (0 ∷ [])) 3 0 1 every (domains 0)
-    -- [all, init, all, recv], user: returns to Ctl (bit 4)
-    ++ (entry (context 4 3 0 (0 ∷ 2 ∷ 0 ∷ 6 ∷ [])) 3 1 0 (domains 0) (domains 4)
+    -- [all, Boot, all, recv], user: returns to Ctl (bit 4)
+    ++ (entry (context 4 3 0 (0 ∷ 1025 ∷ 0 ∷ 6 ∷ [])) 3 1 0 (domains 0) (domains 4)
     ++ (entry (context 1 0 1 (0 ∷ [])) 4 3 1 every every
     ++ entry (context 1 0 0 (7 ∷ [])) 1 1 1 every every)))))
 
@@ -52,9 +52,9 @@ descriptors =
     descriptor (context 3 1 0 (0 ∷ 3 ∷ 0 ∷ [])) (domains 5)
     ++ (descriptor anyContext (domains 8)
     ++ (descriptor (context 1 0 1 (0 ∷ [])) every
-    -- and writes: Heaps under root; Heaps and Misc under [push, pop], user, G; twice nothing
+    -- and writes: Heaps under root; Heaps and Misc under [Ctl, pop], user, G; twice nothing
     ++ (descriptor (context 1 2 0 (0 ∷ [])) (domains 4)
-    ++ (descriptor (context 2 3 1 (3 ∷ 4 ∷ [])) (domains 12)
+    ++ (descriptor (context 2 3 1 (1027 ∷ 4 ∷ [])) (domains 12)
     ++ (descriptor anyContext (domains 0)
     ++ (descriptor anyContext (domains 0)
     -- entry 1 reads and writes, entry 3 writes, entry 4 reads

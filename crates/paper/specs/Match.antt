@@ -7,7 +7,7 @@ use lib.Dec.{eqb, ltb}
 use lib.ListN.{length, getD}
 use Rattle.paper.specs.Common.{isEmpty, allOf, anyOf}
 use Rattle.paper.specs.Scalars.{Sort, anyone, variable, root, user, sortNumber}
-use Rattle.paper.specs.Policy.{Element, all, fn, Context, Grant, every, these, Descriptor, Entry, Policy}
+use Rattle.paper.specs.Policy.{Element, all, fn, anyIn, Context, Grant, every, these, Descriptor, Entry, Policy}
 
 -- a moment: "a stack (base first, running function last), uid and gid"
 pub record Moment : Type 0 where
@@ -15,43 +15,63 @@ pub record Moment : Type 0 where
   pub uid : ℕ
   pub gid : ℕ
 
+-- ---- where a frame's function lies
+
+-- "A number not below the count means unlisted."
+abbrev pub isListed : List ℕ → ℕ → Bool
+isListed domains n = ltb n (length domains)
+
+-- a listed function of this domain: an unlisted one lies in none
+unfoldable pub liesIn : List ℕ → ℕ → ℕ → Bool
+liesIn functions domain f = isListed functions f && eqb (getD functions f 0) domain
+
 -- ---- "A pattern matches a stack when: an empty pattern meets an empty stack; a first function equals the first frame and the rest of the pattern
--- against the rest of the stack matches; a first `all` either drops out or swallows one frame and stays."
+-- against the rest of the stack matches; a first `all` either drops out or swallows one frame and stays." And a subject domain name "meets any one
+-- frame whose function lies in that domain" (document 02 d). The functions are given by their domains.
 
 -- the rest of the pattern matches here, or after some frames
 unfoldable pub swallowing : (List ℕ → Bool) → List ℕ → Bool
 swallowing rest [] = rest []
 swallowing rest (x ∷ stack) = rest (x ∷ stack) || swallowing rest stack
 
--- "a first function equals the first frame and the rest of the pattern against the rest of the stack matches"
-unfoldable pub firstEquals : ℕ → (List ℕ → Bool) → List ℕ → Bool
-firstEquals f rest [] = false
-firstEquals f rest (x ∷ stack) = eqb f x && rest stack
+-- the first frame passes the test, and the rest of the pattern against the rest of the stack matches
+unfoldable pub firstMeets : (ℕ → Bool) → (List ℕ → Bool) → List ℕ → Bool
+firstMeets test rest [] = false
+firstMeets test rest (x ∷ stack) = test x && rest stack
 
-unfoldable pub matches : List Element → List ℕ → Bool
-matches [] stack = isEmpty stack
-matches (all ∷ pattern) stack = swallowing (matches pattern) stack
-matches (fn f ∷ pattern) stack = firstEquals f (matches pattern) stack
+unfoldable pub matches : List ℕ → List Element → List ℕ → Bool
+matches functions [] stack = isEmpty stack
+matches functions (all ∷ pattern) stack = swallowing (matches functions pattern) stack
+matches functions (fn f ∷ pattern) stack = firstMeets (eqb f) (matches functions pattern) stack
+matches functions (anyIn domain ∷ pattern) stack = firstMeets (liesIn functions domain) (matches functions pattern) stack
 
--- "an empty pattern meets an empty stack"
-pub empty-meets-empty : matches [] [] ≡ true
-unfolding matches
-empty-meets-empty = refl
+module _ (functions : List ℕ) where
+  -- "an empty pattern meets an empty stack"
+  pub empty-meets-empty : matches functions [] [] ≡ true
+  unfolding matches
+  empty-meets-empty = refl
 
--- "a first function equals the first frame and the rest .. matches"
-pub first-function : (f : ℕ) (pattern : List Element) (x : ℕ) (stack : List ℕ) → matches (fn f ∷ pattern) (x ∷ stack) ≡ (eqb f x && matches pattern stack)
-unfolding matches firstEquals
-first-function f pattern x stack = refl
+  module _ (pattern : List Element) where
+    -- "a first `all` .. drops out": on an empty stack it can do nothing else
+    pub all-drops-out : matches functions (all ∷ pattern) [] ≡ matches functions pattern []
+    unfolding matches swallowing
+    all-drops-out = refl
 
--- "a first `all` .. drops out": on an empty stack it can do nothing else
-pub all-drops-out : (pattern : List Element) → matches (all ∷ pattern) [] ≡ matches pattern []
-unfolding matches swallowing
-all-drops-out pattern = refl
+    module _ (x : ℕ) (stack : List ℕ) where
+      -- "a first function equals the first frame and the rest .. matches"
+      pub first-function : (f : ℕ) → matches functions (fn f ∷ pattern) (x ∷ stack) ≡ (eqb f x && matches functions pattern stack)
+      unfolding matches firstMeets
+      first-function f = refl
 
--- "a first `all` either drops out or swallows one frame and stays"
-pub all-drops-out-or-swallows : (pattern : List Element) (x : ℕ) (stack : List ℕ) → matches (all ∷ pattern) (x ∷ stack) ≡ (matches pattern (x ∷ stack) || matches (all ∷ pattern) stack)
-unfolding matches swallowing
-all-drops-out-or-swallows pattern x stack = refl
+      -- "it meets any one frame whose function lies in that domain" (document 02 d)
+      pub first-domain : (domain : ℕ) → matches functions (anyIn domain ∷ pattern) (x ∷ stack) ≡ (liesIn functions domain x && matches functions pattern stack)
+      unfolding matches firstMeets
+      first-domain domain = refl
+
+      -- "a first `all` either drops out or swallows one frame and stays"
+      pub all-drops-out-or-swallows : matches functions (all ∷ pattern) (x ∷ stack) ≡ (matches functions pattern (x ∷ stack) || matches functions (all ∷ pattern) stack)
+      unfolding matches swallowing
+      all-drops-out-or-swallows = refl
 
 -- ---- "An entry matches when the top frame's domain is its subject, the pattern matches the whole stack, and uid fits"
 
@@ -59,13 +79,9 @@ all-drops-out-or-swallows pattern x stack = refl
 abbrev pub top : List ℕ → ℕ
 top stack = getD stack (length stack - 1) 0
 
--- "A number not below the count means unlisted."
-abbrev pub isListed : List ℕ → ℕ → Bool
-isListed domains n = ltb n (length domains)
-
 -- the top frame is a listed function of this domain
 unfoldable pub topLiesIn : Policy → ℕ → List ℕ → Bool
-topLiesIn p domain stack = not (isEmpty stack) && isListed (p .functions) (top stack) && eqb (getD (p .functions) (top stack) 0) domain
+topLiesIn p domain stack = not (isEmpty stack) && liesIn (p .functions) domain (top stack)
 
 -- "`root` is 0, `user` is not 0, a variable binds anything"
 unfoldable pub sortFits : Sort → ℕ → Bool
@@ -77,7 +93,7 @@ sortFits user id = not (eqb id 0)
 unfoldable pub entryMatches : Policy → Entry → Moment → Bool
 entryMatches p e m =
     topLiesIn p (e .subject) (m .stack)
-    && matches (e .context .pattern) (m .stack)
+    && matches (p .functions) (e .context .pattern) (m .stack)
     && sortFits (e .context .uid) (m .uid)
     && sortFits (e .context .gid) (m .gid)
 
@@ -91,9 +107,9 @@ allocatedSortFits root bound id = eqb id 0
 allocatedSortFits user bound id = not (eqb id 0)
 
 -- an allocation at one moment, looked at from another
-unfoldable pub fitsAllocated : Context → Moment → Moment → Bool
-fitsAllocated c m allocation =
-    matches (c .pattern) (allocation .stack)
+unfoldable pub fitsAllocated : Policy → Context → Moment → Moment → Bool
+fitsAllocated p c m allocation =
+    matches (p .functions) (c .pattern) (allocation .stack)
     && allocatedSortFits (c .uid) (m .uid) (allocation .uid)
     && allocatedSortFits (c .gid) (m .gid) (allocation .gid)
 
@@ -102,6 +118,7 @@ fitsAllocated c m allocation =
 unfoldable pub isAll : Element → Bool
 isAll all = true
 isAll (fn f) = false
+isAll (anyIn domain) = false
 
 unfoldable pub isAnyone : Sort → Bool
 isAnyone sort = eqb (sortNumber sort) (sortNumber anyone)
@@ -110,8 +127,8 @@ unfoldable pub fitsStatic : Context → Bool
 fitsStatic c = allOf isAll (c .pattern) && isAnyone (c .uid) && isAnyone (c .gid)
 
 -- "An empty allocation stack means a static object; its uid and gid are then not looked at."
-unfoldable pub contextFitsObject : Context → Moment → Moment → Bool
-contextFitsObject c m allocation = cond (isEmpty (allocation .stack)) (fitsStatic c) (fitsAllocated c m allocation)
+unfoldable pub contextFitsObject : Policy → Context → Moment → Moment → Bool
+contextFitsObject p c m allocation = cond (isEmpty (allocation .stack)) (fitsStatic c) (fitsAllocated p c m allocation)
 
 -- a grant holds the domain
 unfoldable pub grants : Grant → ℕ → Bool
@@ -119,8 +136,8 @@ grants every d = true
 grants (these set) d = getD set d false
 
 -- "A read or write is granted by one descriptor that lists the domain and whose context fits."
-unfoldable pub descriptorGrants : ℕ → Moment → Moment → Descriptor → Bool
-descriptorGrants d m allocation a = grants (a .objects) d && contextFitsObject (a .context) m allocation
+unfoldable pub descriptorGrants : Policy → ℕ → Moment → Moment → Descriptor → Bool
+descriptorGrants p d m allocation a = grants (a .objects) d && contextFitsObject p (a .context) m allocation
 
-unfoldable pub someDescriptorGrants : List Descriptor → ℕ → Moment → Moment → Bool
-someDescriptorGrants descriptors d m allocation = anyOf (descriptorGrants d m allocation) descriptors
+unfoldable pub someDescriptorGrants : Policy → List Descriptor → ℕ → Moment → Moment → Bool
+someDescriptorGrants p descriptors d m allocation = anyOf (descriptorGrants p d m allocation) descriptors

@@ -13,10 +13,11 @@ use Rattle.paper.specs.Page.{Field}
 use Rattle.paper.specs.Entries.{valueAt, fieldsAt, entriesOf, itemsOf}
 use Rattle.paper.specs.Rules.{domainsAt, identifiersAt}
 
--- an element of a pattern: the wildcard, or a function
+-- an element of a pattern: the wildcard, a function, or a subject domain ("An element may now also be a subject domain name", document 02 d)
 pub data Element : Type 0 where
   all : Element
   fn : ℕ → Element
+  anyIn : ℕ → Element
 
 pub record Context : Type 0 where
   pub pattern : List Element
@@ -54,15 +55,16 @@ abbrev pub noEntry : Entry
 noEntry =
     record { context = record { pattern = []; uid = anyone; gid = anyone }; subject = 0; calls = every; returns = every; reads = []; writes = [] }
 
--- "call_context holds function identifiers or `all`"
-unfoldable pub elementOf : List (List ℕ) → List ℕ → Element
-elementOf functions s = cond (is "all" s) all (fn (numberIn functions s))
+-- "call_context holds function identifiers or `all`", or subject domain names; "Identifiers have a `|` and names don't, so nothing is ambiguous" (document 02 d)
+unfoldable pub elementOf : List (List ℕ) → List (List ℕ) → List ℕ → Element
+elementOf functions domains s =
+    cond (is "all" s) all (cond (among s functions) (fn (numberIn functions s)) (anyIn (numberIn domains s)))
 
--- the context at a place, among the functions of the file
-unfoldable pub contextOf : List (List ℕ) → ℕ → List Field → Context
-contextOf functions place fs =
+-- the context at a place, among the functions and the subject domains of the file
+unfoldable pub contextOf : List (List ℕ) → List (List ℕ) → ℕ → List Field → Context
+contextOf functions domains place fs =
     record {
-      pattern = map (elementOf functions) (elements (valueAt (callContextIn place) fs));
+      pattern = map (elementOf functions domains) (elements (valueAt (callContextIn place) fs));
       uid = sortOf (valueAt (uidIn place) fs);
       gid = sortOf (valueAt (gidIn place) fs);
     }
@@ -75,7 +77,7 @@ grantOf domains v = cond (is "all" v) every (these (map (λ name. among name (el
 unfoldable pub descriptorOf : List Field → ℕ → List Field → Descriptor
 descriptorOf file access item =
     record {
-      context = contextOf (identifiersAt subjectMembers file) (objectContextIn access) item;
+      context = contextOf (identifiersAt subjectMembers file) (domainsAt subjectName file) (objectContextIn access) item;
       objects = grantOf (domainsAt objectName file) (valueAt (objectsIn access) item);
     }
 
@@ -88,7 +90,7 @@ accessOf file access entry =
 unfoldable pub entryOf : List Field → List Field → Entry
 entryOf file entry =
     record {
-      context = contextOf (identifiersAt subjectMembers file) executionContext entry;
+      context = contextOf (identifiersAt subjectMembers file) (domainsAt subjectName file) executionContext entry;
       subject = numberIn (domainsAt subjectName file) (valueAt subjectOfEntry entry);
       calls = grantOf (domainsAt subjectName file) (valueAt canCall entry);
       returns = grantOf (domainsAt subjectName file) (valueAt canReturn entry);

@@ -121,6 +121,10 @@ domainsAt place file = map (λ f. f .value) (fieldsAt place file)
 unfoldable pub identifiersAt : ℕ → List Field → List (List ℕ)
 identifiersAt place file = flatMap (λ f. elements (f .value)) (fieldsAt place file)
 
+-- what an element of a pattern may name: "An element may now also be a subject domain name" (document 02 d)
+unfoldable pub elementNames : List Field → List (List ℕ)
+elementNames file = bytes "all" ∷ (identifiersAt subjectMembers file ++ domainsAt subjectName file)
+
 -- all of the names are known
 unfoldable pub allKnown : List (List ℕ) → List (List ℕ) → Bool
 allKnown known names = allOf (λ name. among name known) names
@@ -131,7 +135,7 @@ namesUnknown file f =
     cond (isAt subjectOfEntry f) (not (among (f .value) (domainsAt subjectName file)))
     (cond (isAtOne subjectLists f) (not (allKnown (domainsAt subjectName file) (elements (f .value))))
     (cond (isAtOne objectLists f) (not (allKnown (domainsAt objectName file) (elements (f .value))))
-    (isAtOne callContexts f && not (allKnown (bytes "all" ∷ identifiersAt subjectMembers file) (elements (f .value))))))
+    (isAtOne callContexts f && not (allKnown (elementNames file) (elements (f .value))))))
 
 -- 8 over the whole file
 unfoldable pub unknownName : List Field → ℕ

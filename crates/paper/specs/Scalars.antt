@@ -121,11 +121,11 @@ unfoldable pub isIdentifier : Kind → List ℕ → Bool
 isIdentifier kind s =
     within 1 128 (length s) && identifierFirst (getD s 0 0) && allOf identifierByte s && partsFit kind (cut bar s)
 
--- each scalar by its own rule; "`call_context` holds function identifiers or `all`"
+-- each scalar by its own rule; "`call_context` holds function identifiers or `all`", or domain names (document 02 d)
 unfoldable pub isScalar : Scalar → List ℕ → Bool
 isScalar DomainName s = isDomainName s
 isScalar UidValue s = isUid s
 isScalar GidValue s = isGid s
 isScalar SubjectIdentifier s = isIdentifier Subject s
 isScalar ObjectIdentifier s = isIdentifier Object s
-isScalar PatternElement s = is "all" s || isIdentifier Subject s
+isScalar PatternElement s = is "all" s || isIdentifier Subject s || isDomainName s

@@ -9,7 +9,7 @@ use lib.ListN.{length, getD, take, drop, set, replicate}
 use Rattle.paper.specs.Common.{within, upTo, countUp, same}
 use Rattle.paper.specs.Limits.{mostDomains, mostMembers, mostEntries, mostElements, mostDescriptors, tableWords}
 use Rattle.paper.specs.Scalars.{Sort, anyone, variable, root, user, sortNumber}
-use Rattle.paper.specs.Policy.{Element, all, fn, Context, Grant, every, these, Descriptor, Entry, Policy}
+use Rattle.paper.specs.Policy.{Element, all, fn, anyIn, Context, Grant, every, these, Descriptor, Entry, Policy}
 
 -- ---- where each word stands
 
@@ -59,6 +59,10 @@ elementsAt = 4
 
 abbrev pub contextSize : ℕ
 contextSize = 20
+
+-- an element is 0 for `all`, n + 1 for function n; from this word up it is a subject domain (document 02 d)
+abbrev pub firstDomainWord : ℕ
+firstDomainWord = 1025
 
 -- the sorts of a uid are `all`, a variable, `root` and `user`; a gid has the first two
 abbrev pub uidSorts : ℕ
@@ -167,6 +171,7 @@ descriptorAt d = descriptorsAt + descriptorSize * d
 pub blocks-follow :
     (headSpareAt + headSpareSize ≡ headSize)
     × (elementsAt + mostElements ≡ contextSize)
+    × (mostMembers + 1 ≡ firstDomainWord)
     × (wordBits * setSize ≡ mostDomains)
     × (setAt + setSize ≡ grantSize)
     × (contextSize + 1 ≡ principalSize)
@@ -182,7 +187,7 @@ pub blocks-follow :
     × (descriptorAt mostDescriptors ≡ spareAt)
     × (spareAt + spareSize ≡ tableWords)
     × (descriptorsAt + descriptorsSize ≡ tableWords)
-blocks-follow = (refl, refl, refl, refl, refl, refl, refl, refl, refl, refl, refl, refl, refl, refl, refl, refl, refl)
+blocks-follow = (refl, refl, refl, refl, refl, refl, refl, refl, refl, refl, refl, refl, refl, refl, refl, refl, refl, refl)
 
 -- ---- the words of a policy
 
@@ -190,10 +195,11 @@ blocks-follow = (refl, refl, refl, refl, refl, refl, refl, refl, refl, refl, ref
 unfoldable pub padded : ℕ → List ℕ → List ℕ
 padded n ws = ws ++ replicate (n - length ws) 0
 
--- 0 is `all`, n + 1 function n
+-- a word for each element: functions below `firstDomainWord`, subject domains from it up
 unfoldable pub elementWord : Element → ℕ
 elementWord all = 0
 elementWord (fn f) = f + 1
+elementWord (anyIn d) = firstDomainWord + d
 
 -- contexts, sets, grants, entries and descriptors in the order of their layout
 unfoldable pub contextWords : Context → List ℕ
@@ -255,7 +261,7 @@ entryCount ws = word ws entryCountAt
 -- the element that a word says
 unfoldable pub elementIn : ℕ → Element
 elementIn zero = all
-elementIn (suc f) = fn f
+elementIn (suc f) = cond (ltb (suc f) firstDomainWord) (fn f) (anyIn (suc f - firstDomainWord))
 
 -- the sort that a word says
 unfoldable pub sortIn : ℕ → Sort
@@ -364,14 +370,19 @@ unfoldable pub membersFit : List ℕ → ℕ → ℕ → ℕ → Bool
 membersFit ws at members domains =
     upTo (λ i. cond (ltb i members) (ltb (word ws (at + i)) domains) (eqb (word ws (at + i)) 0)) mostMembers
 
--- "patterns 1 to 16"; an element is `all` or a function below their count
+-- an element is `all`, or a function or a subject domain below their count
+unfoldable pub elementListed : List ℕ → ℕ → Bool
+elementListed ws w =
+    cond (ltb w firstDomainWord) (leb w (functionCount ws)) (ltb w (firstDomainWord + subjectDomainCount ws))
+
+-- "patterns 1 to 16"; "zeros in unused words"
 unfoldable pub contextFits : List ℕ → ℕ → Bool
 contextFits ws at =
     within 1 mostElements (elementCount ws at)
     && ltb (word ws (at + uidAt)) uidSorts
     && ltb (word ws (at + gidAt)) gidSorts
     && eqb (word ws (at + contextSpareAt)) 0
-    && upTo (λ i. leb (word ws (at + elementsAt + i)) (cond (ltb i (elementCount ws at)) (functionCount ws) 0)) mostElements
+    && upTo (λ i. cond (ltb i (elementCount ws at)) (elementListed ws (word ws (at + elementsAt + i))) (eqb (word ws (at + elementsAt + i)) 0)) mostElements
 
 -- `all` with no set, or a set with no bit at or past the count: of word j of it, bits below the count less those of the words before it are used
 unfoldable pub grantFits : List ℕ → ℕ → ℕ → Bool

@@ -43,8 +43,8 @@ insideOneDomain p a domain = isCode a && eqb (targetDomain p a) domain
 
 -- an entry grants the access. "For call and return no allocation data is looked at"
 unfoldable pub entryGrants : Policy → Entry → Access → Moment → Moment → Bool
-entryGrants p e (Read o) m allocation = someDescriptorGrants (e .reads) (targetDomain p (Read o)) m allocation
-entryGrants p e (Write o) m allocation = someDescriptorGrants (e .writes) (targetDomain p (Write o)) m allocation
+entryGrants p e (Read o) m allocation = someDescriptorGrants p (e .reads) (targetDomain p (Read o)) m allocation
+entryGrants p e (Write o) m allocation = someDescriptorGrants p (e .writes) (targetDomain p (Write o)) m allocation
 entryGrants p e (Call f) m allocation = grants (e .calls) (targetDomain p (Call f))
 entryGrants p e (Return f) m allocation = grants (e .returns) (targetDomain p (Return f))
 

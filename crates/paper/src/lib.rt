@@ -1,5 +1,6 @@
 // The types that the definitions and the code share: what a field takes, what an event names, and the answers that document 01
 // gives; domain sets are functions of `Operation`. The meaning stands in specs/.
+pub mod element;
 pub mod limit;
 pub mod refusal;
 pub mod violation;

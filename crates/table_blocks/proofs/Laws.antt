@@ -2,22 +2,22 @@
 use mathlib.Core.Path.{_≡_, refl, sym, _∙_}
 use mathlib.Core.Bool.{Bool, true, false, not, and-false}
 use mathlib.Core.List.{List}
-use Prim.Native.Nat.{ℕ, zero, suc, _+_, _*_, _-_, _/_, _^_, _<_, _≤_}
+use Prim.Native.Nat.{ℕ, _+_, _*_, _-_, _/_, _^_, _<_, _≤_}
 use native.Mathlib.Omega.{arith}
-use lib.Dec.{eqb, ltb, leb, eqb·suc-zero, leb·suc-zero}
+use lib.Dec.{eqb, ltb, leb}
 use lib.ListN.{getD}
 use borrow.Author.Tests.{eq-eqb, ne-eqb, lt-ltb, le-ltb, ltb-true, ltb-false}
 use native.Mathlib.Nat.{div-eq-of-lt, div-lt-iff-lt-mul}
 use lib.Pow.{pow-pos}
 use Rattle.paper.specs.Common.{upTo}
 use Rattle.paper.specs.Limits.{mostElements}
-use Rattle.paper.specs.Table.{setAt, uidAt, gidAt, contextSpareAt, elementsAt, uidSorts, gidSorts, variableWord, wordBits}
+use Rattle.paper.specs.Table.{setAt, uidAt, gidAt, contextSpareAt, elementsAt, firstDomainWord, uidSorts, gidSorts, variableWord, wordBits}
 use Rattle.paper.specs.Table.{setSize, everyWord}
 use Rattle.paper.specs.Table.{subjectAt, entrySpareAt, callsAt, returnsAt, entryTailAt, entryTailSize, grantAt}
 use Rattle.paper.specs.Table.{descriptorTailAt, descriptorTailSize}
 use Rattle.paper.specs.Table.{word, objectDomainCount, subjectDomainCount, functionCount, elementCount}
-use Rattle.paper.specs.Table.{zeros, contextFits, grantFits, entryFits, descriptorFits}
-use Rattle.laws.proofs.Tests.{upTo-more, upTo-fails, test-fails, tests-done}
+use Rattle.paper.specs.Table.{zeros, elementListed, contextFits, grantFits, entryFits, descriptorFits}
+use Rattle.laws.proofs.Tests.{ltb-shifted, upTo-more, upTo-fails, test-fails, tests-done}
 use Rattle.laws.proofs.Chains.{tested-false, tested-true, is-equal, is-other, is-above, not-above, falls-short, reaches, not-below, is-below, not-below-it}
 use Rattle.table_blocks.specs.Parts.{zeroAt, memberFits, elementFits, usedBits, setWordFits}
 
@@ -40,18 +40,23 @@ pub unused-member :
     (ws : List ℕ) (at members domains i w : ℕ) → w ≡ getD ws (at + i) 0 → members ≤ i → eqb w 0 ≡ memberFits ws at members domains i
 unused-member ws at members domains i w e h = rw (e, le-ltb i members h)
 
-zero-below : (w : ℕ) → eqb w 0 ≡ leb w 0
-zero-below zero = refl
-zero-below (suc w) = eqb·suc-zero w ∙ sym (leb·suc-zero w)
+module _ (ws : List ℕ) (w : ℕ) where
+  pub listed-function : (functions : ℕ) → functions ≡ functionCount ws → w < firstDomainWord → leb w functions ≡ elementListed ws w
+  unfolding elementListed
+  listed-function functions f h = rw (f, lt-ltb w firstDomainWord h)
+
+  pub listed-domain : (domains : ℕ) → domains ≡ subjectDomainCount ws → firstDomainWord ≤ w → ltb (w - firstDomainWord) domains ≡ elementListed ws w
+  unfolding elementListed
+  listed-domain domains d h = rw (d, le-ltb w firstDomainWord h) (ltb-shifted firstDomainWord w (subjectDomainCount ws) h)
 
 pub listed-element :
-    (ws : List ℕ) (at i w elements functions : ℕ) → w ≡ word ws (at + elementsAt + i) → elements ≡ elementCount ws at → functions ≡ functionCount ws
-    → i < elements → leb w functions ≡ elementFits ws at i
-listed-element ws at i w elements functions e n f h = rw (lt-ltb i (word ws at) (rw n at h), e, f)
+    (ws : List ℕ) (at i w elements : ℕ) (r : Bool) → w ≡ word ws (at + elementsAt + i) → elements ≡ elementCount ws at → i < elements
+    → r ≡ elementListed ws w → r ≡ elementFits ws at i
+listed-element ws at i w elements r e n h f = rw (lt-ltb i (word ws at) (rw n at h), ← e) f
 
 pub unused-element :
     (ws : List ℕ) (at i w elements : ℕ) → w ≡ word ws (at + elementsAt + i) → elements ≡ elementCount ws at → elements ≤ i → eqb w 0 ≡ elementFits ws at i
-unused-element ws at i w elements e n h = rw (le-ltb i (word ws at) (rw n at h), e) (zero-below (word ws (at + elementsAt + i)))
+unused-element ws at i w elements e n h = rw (le-ltb i (word ws at) (rw n at h), e)
 
 module _ (every domains j : ℕ) where
   pub every-uses-none : every ≡ everyWord → 0 ≡ usedBits every domains j

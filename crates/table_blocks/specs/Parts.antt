@@ -2,11 +2,11 @@
 use Prim.Native.Nat.{ℕ, _+_, _*_, _-_, _^_, min}
 use mathlib.Core.List.{List}
 use mathlib.Core.Bool.{Bool, cond, not, _&&_}
-use lib.Dec.{eqb, ltb, leb}
+use lib.Dec.{eqb, ltb}
 use Rattle.paper.specs.Common.{upTo}
 use Rattle.paper.specs.Table.{headSpareAt, headSpareSize, elementsAt, everyWord, wordBits, setAt, entrySize, descriptorSize, spareSize, elementCount}
 use Rattle.paper.specs.Table.{word, objectsAt, functionsAt, spareAt, entryAt, descriptorAt, objectDomainCount, subjectDomainCount, objectCount, functionCount, entryCount}
-use Rattle.paper.specs.Table.{readCount, writeCount, firstDescriptor, zeros, membersFit, entryFits, descriptorFits, entriesFit, descriptorsFit, onePrincipal}
+use Rattle.paper.specs.Table.{readCount, writeCount, firstDescriptor, zeros, membersFit, elementListed, entryFits, descriptorFits, entriesFit, descriptorsFit, onePrincipal}
 use Rattle.paper.specs.Table.{principalsDiffer, boundBy, variablesBound}
 
 -- word i from a place on
@@ -19,7 +19,7 @@ memberFits ws at members domains i = cond (ltb i members) (ltb (word ws (at + i)
 
 -- element i of a context
 abbrev pub elementFits : List ℕ → ℕ → ℕ → Bool
-elementFits ws at i = leb (word ws (at + elementsAt + i)) (cond (ltb i (elementCount ws at)) (functionCount ws) 0)
+elementFits ws at i = cond (ltb i (elementCount ws at)) (elementListed ws (word ws (at + elementsAt + i))) (eqb (word ws (at + elementsAt + i)) 0)
 
 -- how many bits of word j of a set are used
 abbrev pub usedBits : ℕ → ℕ → ℕ → ℕ

@@ -1,4 +1,5 @@
 // Tests of one block of a table, for any words: members, a context, a grant, an entry, a descriptor.
+use paper::element;
 use paper::limit;
 use table::count;
 use table::layout;
@@ -8,7 +9,7 @@ ghost use Prim.Native.Nat.{_+_, _≤_};
 ghost use Rattle.paper.specs.Common.{upTo};
 ghost use Rattle.paper.specs.Limits.{mostMembers, mostElements};
 ghost use Rattle.paper.specs.Table.{wordBits, setSize, entrySize, descriptorSize};
-ghost use Rattle.paper.specs.Table.{zeros, membersFit, contextFits, grantFits, entryFits};
+ghost use Rattle.paper.specs.Table.{zeros, membersFit, elementListed, contextFits, grantFits, entryFits};
 ghost use Rattle.paper.specs.Table.{descriptorFits};
 ghost use Rattle.table.specs.Reach.{reach};
 ghost use Rattle.table_blocks.specs.Parts.{elementFits, memberFits, usedBits, setWordFits};
@@ -53,13 +54,23 @@ pub fn members_fit(t: &[u16], at: usize, members: u16, domains: u16) -> bool
     true
 }
 
+// An element is `all`, or a function or a subject domain below their count.
+fn element_listed(t: &[u16], w: u16) -> bool
+    ensures { λ r. ⌜ r ≡ elementListed (now (t .entry)) w ⌝ }
+{
+    if w < element::FIRST_DOMAIN {
+        return w <= word(t, layout::FUNCTION_COUNT_AT);
+    }
+    w - element::FIRST_DOMAIN < word(t, layout::SUBJECT_DOMAIN_COUNT_AT)
+}
+
 fn element_fits(t: &[u16], at: usize, i: usize) -> bool
     requires { ⌜ (at ≤ reach) × (i ≤ mostElements) ⌝ }
     ensures { λ r. ⌜ r ≡ elementFits (now (t .entry)) at i ⌝ }
 {
     let w = word(t, at + layout::ELEMENTS_AT + i);
     if i < count(t, at) {
-        w <= word(t, layout::FUNCTION_COUNT_AT)
+        element_listed(t, w)
     } else {
         w == 0
     }

@@ -1,12 +1,14 @@
 -- A scalar's two halves are the scalar: its bytes are of its class, and the rest fits.
 use mathlib.Core.Path.{_≡_, refl, sym, ap, _∙_}
-use mathlib.Core.Bool.{Bool, true, false, not, _&&_, _||_}
+use mathlib.Core.Bool.{Bool, true, false, not, _&&_, _||_, false≢true}
 use mathlib.Core.Logic.{⊎-elim}
 use mathlib.Core.List.{List, [], _∷_}
-use Prim.Native.Nat.{ℕ}
+use Prim.Native.Nat.{ℕ, _≤_}
 use Prim.Native.String.{String}
 use native.Mathlib.Omega.{arith}
+use lib.Dec.{eqb, leb}
 use lib.ListN.{length, getD}
+use borrow.Author.Tests.{eqb-true, ne-eqb, leb-true, le-leb}
 use Rattle.paper.specs.Common.{bytes, within, is, isOne, anyOf, allOf, cut}
 use Rattle.paper.specs.Text.{bar}
 use Rattle.paper.specs.Scalars.{isLetter, isDigit, nameByte, identifierByte, identifierFirst, partsFit, isName, isDomainName, isVariable, isUid, isGid, isIdentifier, isScalar}
@@ -15,6 +17,7 @@ use Rattle.paper.specs.declared.Kind.the-variants.{Subject, Object}
 use Rattle.paper.specs.declared.Scalar.{Scalar}
 use Rattle.paper.specs.declared.Scalar.the-variants.{DomainName, UidValue, GidValue, SubjectIdentifier, ObjectIdentifier, PatternElement}
 use Rattle.laws.proofs.Tests.{both-left, both-right, either-of, same-equal}
+use Rattle.laws.proofs.Counting.{allOf-weaker}
 use Rattle.text_bytes.specs.Classes.{isOf}
 use Rattle.text_scalars.specs.Classed.{classOf, fitsKind, fits}
 
@@ -30,6 +33,53 @@ implied : (a b : Bool) → (b ≡ true → a ≡ true) → b ≡ (a && b)
 implied true b h = refl
 implied false true h = sym (h refl)
 implied false false h = refl
+
+implied-split : (a f d : Bool) → (d ≡ true → a ≡ true) → ((a && f) || d) ≡ (a && (f || d))
+implied-split true f d h = refl
+implied-split false f true h = sym (h refl)
+implied-split false f false h = refl
+
+-- ---- a name's bytes may stand in an identifier
+
+between-marks : (b : ℕ) → 46 ≤ b → b ≤ 122 → (b ≡ 58 → ⊥) → (b ≡ 91 → ⊥) → (b ≡ 93 → ⊥) → identifierByte b ≡ true
+unfolding identifierByte anyOf
+between-marks b low high colon opening closing = rw (
+  le-leb 0x21 b (omega arith),
+  le-leb b 0x7E (omega arith),
+  ne-eqb b 44 (λ e. omega arith),
+  ne-eqb b 91 opening,
+  ne-eqb b 93 closing,
+  ne-eqb b 123 (λ e. omega arith),
+  ne-eqb b 125 (λ e. omega arith),
+  ne-eqb b 35 (λ e. omega arith),
+  ne-eqb b 34 (λ e. omega arith),
+  ne-eqb b 39 (λ e. omega arith),
+  ne-eqb b 58 colon,
+)
+
+name-in-identifier : (b : ℕ) → nameByte b ≡ true → identifierByte b ≡ true
+unfolding nameByte isLetter isDigit anyOf
+name-in-identifier b h =
+    ⊎-elim
+    (λ k.
+    ⊎-elim (λ l. ⊎-elim (λ m. ranged 65 90 m (λ p q. between-marks b (omega arith) (omega arith) (λ e. omega arith) (λ e. omega arith) (λ e. omega arith)))
+    (λ m. ranged 97 122 m (λ p q. between-marks b (omega arith) (omega arith) (λ e. omega arith) (λ e. omega arith) (λ e. omega arith)))
+    (either-of (within 65 90 b) (within 97 122 b) l))
+    (λ l. ranged 48 57 l (λ p q. between-marks b (omega arith) (omega arith) (λ e. omega arith) (λ e. omega arith) (λ e. omega arith)))
+    (either-of (isLetter b) (isDigit b) k))
+    (λ k.
+    ⊎-elim (λ l. marked 95 l (λ e. between-marks b (omega arith) (omega arith) (λ z. omega arith) (λ z. omega arith) (λ z. omega arith)))
+    (λ l. ⊎-elim (λ m. marked 46 m (λ e. between-marks b (omega arith) (omega arith) (λ z. omega arith) (λ z. omega arith) (λ z. omega arith)))
+    (λ m. absurd (false≢true m))
+    (either-of (eqb b 46) false l))
+    (either-of (eqb b 95) (eqb b 46 || false) k))
+    (either-of (isLetter b || isDigit b) (eqb b 95 || (eqb b 46 || false)) h)
+  where
+    ranged : (low high : ℕ) → within low high b ≡ true → (low ≤ b → b ≤ high → identifierByte b ≡ true) → identifierByte b ≡ true
+    ranged low high w k = k (leb-true low b (both-left (leb low b) (leb b high) w)) (leb-true b high (both-right (leb low b) (leb b high) w))
+
+    marked : (c : ℕ) → eqb b c ≡ true → (b ≡ c → identifierByte b ≡ true) → identifierByte b ≡ true
+    marked c e k = k (eqb-true b c e)
 
 -- ---- each scalar
 
@@ -70,13 +120,18 @@ module _ (s : List ℕ) where
   unfolding isGid
   gid-bytes h = ⊎-elim all-bytes variable-bytes (either-of (is "all" s) (isVariable s) h)
 
-  element-splits : (is "all" s || isIdentifier Subject s) ≡ (allOf identifierByte s && (is "all" s || fitsKind Subject s))
+  domain-name-bytes : isDomainName s ≡ true → allOf identifierByte s ≡ true
+  unfolding isDomainName isName
+  domain-name-bytes h =
+      allOf-weaker nameByte identifierByte name-in-identifier s (both-right (within 1 64 (length s)) (allOf nameByte s) (both-left (isName s) (not (is "all" s)) h))
+
+  element-splits : (is "all" s || isIdentifier Subject s || isDomainName s) ≡ (allOf identifierByte s && (is "all" s || fitsKind Subject s || isDomainName s))
   unfolding allOf identifierByte anyOf
   element-splits = go (is "all" s) refl
     where
-      go : (t : Bool) → is "all" s ≡ t → (t || isIdentifier Subject s) ≡ (allOf identifierByte s && (t || fitsKind Subject s))
+      go : (t : Bool) → is "all" s ≡ t → (t || isIdentifier Subject s || isDomainName s) ≡ (allOf identifierByte s && (t || fitsKind Subject s || isDomainName s))
       go true e = let q : allOf identifierByte s ≡ true = ap (allOf identifierByte) (sym (same-equal (bytes "all") s e)) in rw q
-      go false e = identifier-splits Subject s
+      go false e = rw (identifier-splits Subject s) (implied-split (allOf identifierByte s) (fitsKind Subject s) (isDomainName s) domain-name-bytes)
 
 pub scalar-splits : (k : Scalar) (s : List ℕ) → isScalar k s ≡ (allOf (isOf (classOf k)) s && fits k s)
 unfolding isScalar fits

@@ -194,15 +194,33 @@ module _ (kind : Kind) (s : List ℕ) where
 
 -- ---- scalars
 
+module _ (s : List ℕ) (r all : Bool) (e : all ≡ same (bytes "all") s) where
+  pub element-all : all ≡ true → true ≡ isScalar PatternElement s
+  unfolding isScalar
+  element-all t = rw (← e, t)
+
+  pub fits-all : all ≡ true → true ≡ fits PatternElement s
+  unfolding fits
+  fits-all t = rw (← e, t)
+
+  module _ (t : all ≡ false) where
+    pub element-identifier : r ≡ isIdentifier Subject s → r ≡ true → r ≡ isScalar PatternElement s
+    unfolding isScalar
+    element-identifier f u = rw (← e, t, ← f, u)
+
+    pub element-name : (identifier : Bool) → identifier ≡ isIdentifier Subject s → identifier ≡ false → r ≡ isDomainName s → r ≡ isScalar PatternElement s
+    unfolding isScalar
+    element-name identifier f u n = rw (← e, t, ← f, u, n)
+
+    pub fits-identifier : r ≡ fitsKind Subject s → r ≡ true → r ≡ fits PatternElement s
+    unfolding fits
+    fits-identifier f u = rw (← e, t, ← f, u)
+
+    pub fits-name : (identifier : Bool) → identifier ≡ fitsKind Subject s → identifier ≡ false → r ≡ isDomainName s → r ≡ fits PatternElement s
+    unfolding fits
+    fits-name identifier f u n = rw (← e, t, ← f, u, n)
+
 module _ (s : List ℕ) (r : Bool) where
-  pub element-all : r ≡ same (bytes "all") s → r ≡ true → r ≡ isScalar PatternElement s
-  unfolding isScalar
-  element-all e t = rw (← e, t)
-
-  pub element-identifier : (all : Bool) → all ≡ same (bytes "all") s → all ≡ false → r ≡ isIdentifier Subject s → r ≡ isScalar PatternElement s
-  unfolding isScalar
-  element-identifier all e t f = rw (← e, t, f)
-
   pub scalar-known : (scalar known : Scalar) → scalar ≡ known → r ≡ isScalar known s → r ≡ isScalar scalar s
   scalar-known scalar known e f = rw e f
 
@@ -212,11 +230,3 @@ module _ (s : List ℕ) (r : Bool) where
   pub fits-domain-name-is : (all : Bool) → r ≡ within 1 64 (length s) → all ≡ same (bytes "all") s → (r && not all) ≡ fits DomainName s
   unfolding fits
   fits-domain-name-is all e f = rw (e, f)
-
-  pub fits-all : r ≡ same (bytes "all") s → r ≡ true → r ≡ fits PatternElement s
-  unfolding fits
-  fits-all e t = rw (← e, t)
-
-  pub fits-pattern : (all : Bool) → all ≡ same (bytes "all") s → all ≡ false → r ≡ fitsKind Subject s → r ≡ fits PatternElement s
-  unfolding fits
-  fits-pattern all e t f = rw (← e, t, f)

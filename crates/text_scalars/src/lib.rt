@@ -199,10 +199,14 @@ pub fn is_identifier(kind: Kind, s: &[u8]) -> bool
     fits_kind(kind, s) & text_bytes::all_of(Class::IdentifierByte, s)
 }
 
+// Functions are the common case: asked before names.
 fn is_pattern_element(s: &[u8]) -> bool
     ensures { λ r. ⌜ r ≡ isScalar PatternElement (now (s .entry)) ⌝ }
 {
-    text_bytes::same(b"all", s) || is_identifier(Kind::Subject, s)
+    if text_bytes::same(b"all", s) {
+        return true;
+    }
+    is_identifier(Kind::Subject, s) || is_domain_name(s)
 }
 
 pub fn is_scalar(scalar: Scalar, s: &[u8]) -> bool
@@ -238,10 +242,14 @@ fn fits_domain_name(s: &[u8]) -> bool
     has_name_length(s) & !text_bytes::same(b"all", s)
 }
 
+// A name's bytes are fewer than an identifier's: its own test is the whole one.
 fn fits_pattern_element(s: &[u8]) -> bool
     ensures { λ r. ⌜ r ≡ fits PatternElement (now (s .entry)) ⌝ }
 {
-    text_bytes::same(b"all", s) || fits_kind(Kind::Subject, s)
+    if text_bytes::same(b"all", s) {
+        return true;
+    }
+    fits_kind(Kind::Subject, s) || is_domain_name(s)
 }
 
 // What is asked of a scalar besides the class of its bytes.

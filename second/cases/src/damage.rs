@@ -93,11 +93,14 @@ fn unknown_in_list(dice: &mut Dice, draft: &mut Draft) {
     }
 }
 
+/// A name of 64 bytes.
+const LONGEST: &str = "n234567890123456789012345678901234567890123456789012345678901234";
+
 /// A name of no map, or of one of them, which may be the other.
 fn unknown(dice: &mut Dice, draft: &Draft) -> String {
     let maps = draft.objects.iter().chain(&draft.subjects);
     let mut names: Vec<&str> = maps.map(|domain| domain.name.as_str()).collect();
-    names.extend(["Nowhere", "MeteR", "Main.", "M", "root"]);
+    names.extend(["Nowhere", "MeteR", "Main.", "M", "root", LONGEST]);
     dice.pick(&names).to_string()
 }
 
@@ -109,11 +112,17 @@ fn unknown_subject(dice: &mut Dice, draft: &mut Draft) {
     }
 }
 
+/// A function that is in no map, or a name as `unknown` gives them.
 fn unknown_element(dice: &mut Dice, draft: &mut Draft) {
-    let word = dice.word(&["m.c|nowhere", "m.c|mai", "m.c|main.", "b|m", "n.c|main"]);
+    let word = match dice.percent(50) {
+        true => unknown(dice, draft),
+        false => dice
+            .word(&["m.c|nowhere", "m.c|mai", "m.c|main.", "b|m", "n.c|main"])
+            .to_string(),
+    };
     if let Some(elements) = any_pattern(dice, draft) {
         let at = dice.below(elements.len() + 1);
-        elements.insert(at, word.to_string());
+        elements.insert(at, word);
         elements.truncate(16);
     }
 }
@@ -269,20 +278,26 @@ fn repeat_entry(dice: &mut Dice, draft: &mut Draft) {
     draft.entries.insert(at, new);
 }
 
+/// An element that is unknown, of the other map, or malformed; or a good one.
 fn element(dice: &mut Dice, draft: &mut Draft) {
-    let word = dice
-        .word(&["m.c|nowhere", "any", "Main", "all", "m.c|", "all|all"])
-        .to_string();
-    let mut contexts = contexts(draft);
-    if contexts.is_empty() {
-        return;
-    }
-    let place = dice.below(contexts.len());
-    if let Context::Keys {
-        call_context: Some(elements),
-        ..
-    } = &mut *contexts[place]
-    {
+    const WORDS: [&str; 10] = [
+        "m.c|nowhere",
+        "any",
+        "Main",
+        "all",
+        "m.c|",
+        "all|all",
+        "a-b",
+        "",
+        "Main|",
+        "Ma:n",
+    ];
+    let word = match dice.below(10) {
+        0 => format!("{LONGEST}5"),
+        1..=3 => unknown(dice, draft),
+        _ => dice.word(&WORDS).to_string(),
+    };
+    if let Some(elements) = any_pattern(dice, draft) {
         let at = dice.below(elements.len() + 1);
         elements.insert(at, word);
     }
@@ -339,7 +354,7 @@ const KEYS: [&str; 14] = [
     "object_context",
 ];
 
-const VALUES: [&str; 26] = [
+const VALUES: [&str; 28] = [
     "",
     " ",
     " all",
@@ -366,6 +381,8 @@ const VALUES: [&str; 26] = [
     " 'a'",
     " [a,  b]",
     " [m.c|main, all]",
+    " [Main, all]",
+    " [A, m.c|main]",
 ];
 
 /// One fault in the lines.

@@ -121,11 +121,46 @@ pub fn draft(dice: &mut Dice) -> Draft {
             draft.entries.push(entry);
         }
     }
+    if dice.percent(20) {
+        restate(dice, &mut draft);
+    }
     let mut seen = HashSet::new();
     draft
         .entries
         .retain(|entry| seen.insert(format!("{} {}", entry.subject, entry.context.principal())));
     draft
+}
+
+/// An entry again, a function in its pattern put as its domain or a domain as
+/// one of its functions: as written, principals differ.
+fn restate(dice: &mut Dice, draft: &mut Draft) {
+    let place = dice.below(draft.entries.len());
+    let Some(mut again) = draft.entries.get(place).cloned() else {
+        return;
+    };
+    let Context::Keys {
+        call_context: Some(elements),
+        ..
+    } = &mut again.context
+    else {
+        return;
+    };
+    let element = dice.below(elements.len());
+    if let Some(other) = other_way(dice, &draft.subjects, &elements[element]) {
+        elements[element] = other;
+        draft.entries.push(again);
+    }
+}
+
+/// The domain of a function, or a function of a domain.
+fn other_way(dice: &mut Dice, subjects: &[Domain], element: &String) -> Option<String> {
+    let is_it = |domain: &&Domain| domain.name == *element || domain.members.contains(element);
+    let domain = subjects.iter().find(is_it)?;
+    match domain.name == *element {
+        false => Some(domain.name.clone()),
+        true if domain.members.is_empty() => None,
+        true => Some(dice.pick(&domain.members).clone()),
+    }
 }
 
 /// Drops members that stand twice in a map.
@@ -256,7 +291,7 @@ fn context(dice: &mut Dice, draft: &Draft, outer: Option<&Context>) -> Context {
         }
         Some(outer) => outer.bound(),
     };
-    let call_context = dice.percent(70).then(|| pattern(dice, &functions(draft)));
+    let call_context = dice.percent(70).then(|| pattern(dice, draft));
     let uid = dice.percent(60).then(|| {
         let sort = dice.word(&["all", "root", "user", "user"]).to_string();
         let variable = variables.0.filter(|_| dice.percent(55));
@@ -276,18 +311,18 @@ fn context(dice: &mut Dice, draft: &Draft, outer: Option<&Context>) -> Context {
     }
 }
 
-fn pattern(dice: &mut Dice, functions: &[String]) -> Vec<String> {
+/// Elements of all three sorts; an entry has a subject, so there is a domain.
+fn pattern(dice: &mut Dice, draft: &Draft) -> Vec<String> {
     let length = match dice.below(20) {
         0 => dice.from_to(5, 16),
         _ => dice.from_to(1, 4),
     };
-    let element = |_| {
-        if functions.is_empty() || dice.percent(45) {
-            "all".to_string()
-        } else {
-            // Few functions, so that patterns meet.
-            functions[dice.below(functions.len().min(4))].clone()
-        }
+    let (functions, domains) = (functions(draft), names(&draft.subjects));
+    let element = |_| match dice.below(20) {
+        0..=8 => "all".to_string(),
+        // Few functions, so that patterns meet.
+        9..=14 if !functions.is_empty() => functions[dice.below(functions.len().min(4))].clone(),
+        _ => dice.pick(&domains).clone(),
     };
     (0..length).map(element).collect()
 }

@@ -34,7 +34,7 @@ const IDS: [u32; 6] = [0, 0, 1, 5, 65_536, u32::MAX];
 
 /// An event for a policy; also one for a table that is none.
 pub fn event(dice: &mut Dice, policy: Option<&Policy>) -> OwnEvent {
-    let functions = policy.map_or(3, |p| p.functions.len());
+    let functions = policy.map_or(&[0; 3][..], |p| &p.functions);
     let objects = policy.map_or(3, |p| p.objects.len());
     let entry = policy
         .filter(|p| !p.entries.is_empty())
@@ -43,7 +43,11 @@ pub fn event(dice: &mut Dice, policy: Option<&Policy>) -> OwnEvent {
         0 => *dice.pick(&[0, 5, 6, 255, 65_535]),
         other => 1 + (other % 4) as u16,
     };
-    let count = if operation < 3 { objects } else { functions };
+    let count = if operation < 3 {
+        objects
+    } else {
+        functions.len()
+    };
     let mut stack = stack(dice, functions, entry.map(|e| &e.context));
     if let (Some(policy), Some(entry)) = (policy, entry) {
         meet_subject(dice, policy, entry, &mut stack);
@@ -98,26 +102,37 @@ fn number(dice: &mut Dice, count: usize) -> u16 {
     }
 }
 
+/// A function of a domain; now and then, and where it has none, any number.
+fn one_of(dice: &mut Dice, functions: &[u16], domain: u16) -> u16 {
+    let own = |&f: &u16| functions[usize::from(f)] == domain;
+    let own: Vec<u16> = (0..functions.len() as u16).filter(own).collect();
+    match own.is_empty() || dice.percent(10) {
+        true => number(dice, functions.len()),
+        false => *dice.pick(&own),
+    }
+}
+
 /// A stack: one that a pattern matches, or any; now and then of an unusual
-/// length.
-fn stack(dice: &mut Dice, functions: usize, context: Option<&Context>) -> Vec<u16> {
+/// length. The functions are told by their domains.
+fn stack(dice: &mut Dice, functions: &[u16], context: Option<&Context>) -> Vec<u16> {
     let mut stack = Vec::new();
     match context {
         Some(context) if dice.percent(75) => {
             for element in &context.pattern {
-                match element {
-                    Element::Function(function) => stack.push(*function),
+                match *element {
+                    Element::Function(function) => stack.push(function),
+                    Element::Domain(domain) => stack.push(one_of(dice, functions, domain)),
                     Element::All => {
                         let swallowed = *dice.pick(&[0, 0, 1, 1, 2]);
-                        stack.extend((0..swallowed).map(|_| number(dice, functions)));
+                        stack.extend((0..swallowed).map(|_| number(dice, functions.len())));
                     }
                 }
             }
         }
-        _ => stack.extend((0..dice.from_to(1, 4)).map(|_| number(dice, functions))),
+        _ => stack.extend((0..dice.from_to(1, 4)).map(|_| number(dice, functions.len()))),
     }
     if stack.is_empty() && dice.percent(90) {
-        stack.push(number(dice, functions));
+        stack.push(number(dice, functions.len()));
     }
     match dice.below(60) {
         0 => stack.clear(),

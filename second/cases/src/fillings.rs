@@ -1,11 +1,11 @@
 //! The texts that are stored for the filler, each with how many bytes of an
 //! output are lent: document 01's example, a file of nothing, every field put in
-//! every way, the limits of whole texts, line ends of every sort, and short texts
-//! of every sort.
+//! every way, the limits of whole texts, line ends of every sort, domain names in
+//! patterns, and short texts of every sort.
 
 use crate::dice::Dice;
 use crate::draft::{Access, Context, Domain, Draft, Entry, Grant, Item};
-use crate::{ends, limits, texts, write};
+use crate::{ends, limits, patterns, texts, write};
 use second::refusal::{
     BYTE, COUNT, EMPTY, LAYOUT, SAME_PRINCIPAL, SCALAR, TWICE, UNBOUND, UNKNOWN,
 };
@@ -44,6 +44,7 @@ pub fn all(seed: u64) -> Vec<Filling> {
     all.push((limits::text(limits::LONG_FILLED, true).0, 0));
     all.push((limits::text(limits::LONG_TEXT, true).0, 0));
     all.extend(ends::stored().into_iter().map(exact));
+    all.extend(patterns::stored().into_iter().map(exact));
     all.extend((0..SHORT_TEXTS).map(|case| short(case, &mut Dice::of_case(seed, case as u64))));
     all
 }

@@ -8,10 +8,13 @@ use second::policy::{
     DOMAINS, ELEMENTS, ENTRIES, MEMBERS,
 };
 
-/// The functions that patterns and stacks are made of.
+/// The functions that patterns and stacks are made of. Each lies in the domain
+/// of its own number.
 const POOL: usize = 8;
 
-pub fn policy(dice: &mut Dice) -> Policy {
+/// In so many of a hundred elements that are not `all` the patterns name the
+/// domain and not the function.
+pub fn policy(dice: &mut Dice, domains: usize) -> Policy {
     let domain = |member: usize| (member % DOMAINS) as u16;
     let members: Vec<u16> = (0..MEMBERS).map(domain).collect();
     let mut policy = Policy {
@@ -22,7 +25,7 @@ pub fn policy(dice: &mut Dice) -> Policy {
         entries: Vec::new(),
     };
     while policy.entries.len() < ENTRIES {
-        policy.entries.push(entry(dice));
+        policy.entries.push(entry(dice, domains));
         if first_repeat(&policy.entries).is_some() {
             policy.entries.pop();
         }
@@ -32,12 +35,14 @@ pub fn policy(dice: &mut Dice) -> Policy {
 
 /// 128 entries of one subject, with full patterns, no two of which match one
 /// stack: each ends in a function of its own, so that the overlap report
-/// searches every pair to its end.
-pub fn clear_policy() -> Policy {
+/// searches every pair to its end. The other elements are `all` and functions,
+/// or domains with one function each.
+pub fn clear_policy(has_domains: bool) -> Policy {
     let pattern = |last: usize| {
-        let one = |place: usize| match place % 2 {
-            0 => Element::All,
-            _ => Element::Function((place / 2) as u16),
+        let one = |place: usize| match (place % 2, (place / 2) as u16) {
+            (0, _) => Element::All,
+            (_, domain) if has_domains => Element::Domain(1 + domain),
+            (_, function) => Element::Function(function),
         };
         let mut elements: Vec<Element> = (0..ELEMENTS - 1).map(one).collect();
         elements.push(Element::Function(last as u16));
@@ -56,16 +61,16 @@ pub fn clear_policy() -> Policy {
     };
     Policy {
         object_domains: 0,
-        subject_domains: 1,
+        subject_domains: POOL as u16,
         objects: Vec::new(),
-        functions: vec![0; ENTRIES],
+        functions: [vec![0; ENTRIES], (1..POOL as u16).collect()].concat(),
         entries: (0..ENTRIES).map(entry).collect(),
     }
 }
 
-fn entry(dice: &mut Dice) -> Entry {
+fn entry(dice: &mut Dice, domains: usize) -> Entry {
     let context = Context {
-        pattern: pattern(dice),
+        pattern: pattern(dice, domains),
         uid: *dice.pick(&[Uid::All, Uid::Variable, Uid::Root, Uid::User]),
         gid: *dice.pick(&[Gid::All, Gid::Variable]),
     };
@@ -74,7 +79,7 @@ fn entry(dice: &mut Dice) -> Entry {
         let one = |_| Descriptor {
             objects: grant(dice),
             context: Context {
-                pattern: pattern(dice),
+                pattern: pattern(dice, domains),
                 ..context
             },
         };
@@ -91,10 +96,11 @@ fn entry(dice: &mut Dice) -> Entry {
     }
 }
 
-fn pattern(dice: &mut Dice) -> Vec<Element> {
+fn pattern(dice: &mut Dice, domains: usize) -> Vec<Element> {
     let length = dice.from_to(2, ELEMENTS);
     let one = |_| match dice.percent(50) {
         true => Element::All,
+        false if domains > 0 && dice.percent(domains) => Element::Domain(dice.below(POOL) as u16),
         false => Element::Function(dice.below(POOL) as u16),
     };
     (0..length).map(one).collect()

@@ -23,6 +23,7 @@ pub fn texts() -> &'static [Large] {
     ALL.get_or_init(|| {
         let all = [
             ("patterns", patterned(&short_functions()), 0),
+            ("patterns with domains", with_domains(&short_domains()), 0),
             ("long names", patterned(&long_functions()), 0),
             ("ordinary", ordinary("\n"), 0),
             ("ordinary, CR LF", ordinary("\r\n"), 0),
@@ -37,6 +38,7 @@ pub fn texts() -> &'static [Large] {
             ("one hash", patterned(&one_hash()), 0),
             ("one hash, short names", patterned(&one_hash_short()), 0),
             ("one hash, alike at both ends", patterned(&alike()), 0),
+            ("one hash, domains", with_domains(&one_hash_domains()), 0),
         ];
         let large = |(name, text, number): (_, String, _)| Large {
             name,
@@ -55,20 +57,38 @@ fn front(functions: &[String]) -> String {
     )
 }
 
-/// These functions, and as many entries as there can be, each with three full
-/// patterns. Elements are spread over all functions.
+/// These functions, and patterns of them.
 fn patterned(functions: &[String]) -> String {
-    let mut text = front(functions);
-    // A step without a common factor with their number meets every function;
+    add_patterns(front(functions), functions, ENTRIES)
+}
+
+/// Subject domains with these names, each with one function, and patterns of
+/// both. There are fewer entries than could be, so that the filled text of short
+/// names is not too long.
+fn with_domains(names: &[String]) -> String {
+    let function = |name: &String| format!("{name}|f");
+    let domain = |name: &String| format!("- name: {name}\n  subjects: [{}]\n", function(name));
+    let domains: String = names.iter().map(domain).collect();
+    let front =
+        format!("object_map: []\nsubject_map:\n{domains}- name: S\n  subjects: []\nprivileges:\n");
+    let both = names.iter().flat_map(|name| [name.clone(), function(name)]);
+    add_patterns(front, &both.collect::<Vec<_>>(), 100)
+}
+
+/// So many entries at most, each with three full patterns, after the front of a
+/// text. They are spread over all these elements.
+fn add_patterns(front: String, elements: &[String], entries: usize) -> String {
+    let mut text = front;
+    // A step without a common factor with their number meets every element;
     // each round begins one further on, so that no two patterns are alike.
-    let count = functions.len();
-    let function = |place: usize| functions[(place * 619 + place / count) % count].as_str();
-    let mut elements = (0..).map(function);
+    let count = elements.len();
+    let element = |place: usize| elements[(place * 619 + place / count) % count].as_str();
+    let mut spread = (0..).map(element);
     let mut pattern = || {
-        let some: Vec<&str> = elements.by_ref().take(ELEMENTS).collect();
+        let some: Vec<&str> = spread.by_ref().take(ELEMENTS).collect();
         format!("      call_context: [{}]\n", some.join(", "))
     };
-    for _ in 0..ENTRIES {
+    for _ in 0..entries {
         let principal = "- principal:\n    subject: S\n    execution_context:\n";
         let item = "  - objects: all\n    object_context:\n";
         let (own, read, write) = (pattern(), pattern(), pattern());
@@ -106,6 +126,11 @@ fn short_functions() -> Vec<String> {
     let digit = |place: usize| char::from(DIGITS[place % 64]);
     let function = |number: usize| format!("{}|{}", digit(number / 64), digit(number));
     (0..MEMBERS).map(function).collect()
+}
+
+/// 127 names of two bytes, for domains: S is one more.
+fn short_domains() -> Vec<String> {
+    (64..).map(short_name).take(DOMAINS - 1).collect()
 }
 
 /// 1,024 functions of 58 bytes that differ in the last two.
@@ -322,12 +347,22 @@ fn one_bucket() -> Vec<String> {
     own.take(MEMBERS).collect()
 }
 
-/// 1,024 functions of one hash: ten blocks, each of two that hash alike.
+/// A name of so many blocks, each of two that hash alike.
+fn of_blocks(blocks: usize, number: usize) -> String {
+    let block = |bit: usize| ["Aa0o", "bbQ0"][number >> bit & 1];
+    (0..blocks).map(block).collect()
+}
+
+/// 1,024 functions of one hash.
 fn one_hash() -> Vec<String> {
-    let block = |number: usize, bit: usize| ["Aa0o", "bbQ0"][number >> bit & 1];
-    let name = |number| -> String { (0..10).map(|bit| block(number, bit)).collect() };
-    (0..MEMBERS)
-        .map(|number| format!("f|{}", name(number)))
+    let function = |number| format!("f|{}", of_blocks(10, number));
+    (0..MEMBERS).map(function).collect()
+}
+
+/// 127 domains of one hash, as are their functions: S is one more.
+fn one_hash_domains() -> Vec<String> {
+    (0..DOMAINS - 1)
+        .map(|number| of_blocks(7, number))
         .collect()
 }
 

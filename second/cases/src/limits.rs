@@ -7,7 +7,7 @@ use crate::{ends, write};
 pub const LIMITS: usize = DRAFT_LIMITS + 5;
 
 /// How many of them a draft can show; the others are about whole texts.
-pub const DRAFT_LIMITS: usize = 20;
+pub const DRAFT_LIMITS: usize = 22;
 
 /// Some of those: the domains of each map, and a domain's name.
 pub const OBJECT_DOMAINS: usize = 0;
@@ -46,7 +46,9 @@ pub fn draft(limit: usize, past: bool) -> (Draft, u16) {
         16 => listed_name(&mut draft, 64 + more),
         17 => uid(&mut draft, 64 + more),
         18 => object_identifier(&mut draft, 128 + more),
-        _ => bound(&mut draft, past),
+        19 => bound(&mut draft, past),
+        20 => element_name(&mut draft, 64 + more),
+        _ => object_element_name(&mut draft, 64 + more),
     };
     (draft, if past { number } else { 0 })
 }
@@ -139,7 +141,7 @@ fn entries(draft: &mut Draft, count: usize) -> u16 {
 }
 
 fn elements(context: &mut Context, count: usize) -> u16 {
-    let element = |place: usize| ["s|a", "all", "s|b"][place % 3].to_string();
+    let element = |place: usize| ["s|a", "all", "s|b", "S"][place % 4].to_string();
     *context = keys((0..count).map(element).collect());
     6
 }
@@ -229,6 +231,25 @@ fn listed_name(draft: &mut Draft, length: usize) -> u16 {
     draft.subjects.push(domain(&"n".repeat(64), &[]));
     draft.entries[0].can_return = Grant::List(vec!["S".to_string(), "n".repeat(length)]);
     5
+}
+
+/// The same in a pattern.
+fn element_name(draft: &mut Draft, length: usize) -> u16 {
+    draft.subjects.push(domain(&"n".repeat(64), &["n|a"]));
+    draft.entries[0].context = keys(vec!["all".to_string(), "n".repeat(length)]);
+    5
+}
+
+/// The same in an object context.
+fn object_element_name(draft: &mut Draft, length: usize) -> u16 {
+    let number = element_name(draft, length);
+    let entry = &mut draft.entries[0];
+    entry.can_read = Access::Items(vec![Item {
+        objects: Grant::All,
+        context: entry.context.clone(),
+    }]);
+    entry.context = keys(vec!["S".to_string()]);
+    number
 }
 
 fn uid(draft: &mut Draft, length: usize) -> u16 {

@@ -5,7 +5,7 @@
 
 use crate::dice::Dice;
 use crate::events::{self, OwnEvent};
-use crate::{ends, fillings, findings, listings, names, readings, tables, texts};
+use crate::{ends, fillings, findings, listings, names, patterns, readings, tables, texts};
 use second::{decode, fill, filler, first_fault, judge, list, overlap, read, Refusal, TABLE_WORDS};
 
 /// The codes of the trials' operations.
@@ -145,15 +145,17 @@ fn trials() -> Vec<u8> {
     out
 }
 
+/// A large table, those of the stored patterns, and any others.
 fn judge_cases() -> Vec<u8> {
     let (count, events) = (80, 40);
+    let mut named = patterns::tables().into_iter();
     let mut out = Vec::new();
     put_u32(&mut out, count);
     for case in 0..u64::from(count) {
         let mut dice = Dice::of_case(SEED, case);
         let table = match case {
             0 => second::encode(&tables::large(&mut dice)).unwrap_or_default(),
-            _ => tables::table(&mut dice),
+            _ => named.next().unwrap_or_else(|| tables::table(&mut dice)),
         };
         let policy = decode(&table);
         // A table that is refused gives the same answer every time.
@@ -168,13 +170,15 @@ fn judge_cases() -> Vec<u8> {
     out
 }
 
+/// The tables of the stored patterns, and any others.
 fn overlap_cases() -> Vec<u8> {
     let count = 250;
+    let mut named = patterns::tables().into_iter();
     let mut out = Vec::new();
     put_u32(&mut out, count);
     for case in 0..u64::from(count) {
         let mut dice = Dice::of_case(SEED + 1, case);
-        let table = tables::table(&mut dice);
+        let table = named.next().unwrap_or_else(|| tables::table(&mut dice));
         let room = *dice.pick(&[0, 29, 30, 30, 30, 30, 30, 31]);
         let mut witness = vec![0; room];
         let report = overlap(&table, &mut witness);
@@ -194,6 +198,7 @@ fn page_cases() -> Vec<u8> {
     let short = (2..260).map(|case| short_text(&mut Dice::of_case(SEED + 2, case)));
     let mut all = vec![Vec::new(), b"\n".to_vec()];
     all.extend(ends::stored());
+    all.extend(patterns::stored());
     all.extend(short);
     let mut out = Vec::new();
     put_u32(&mut out, all.len() as u32);

@@ -4,7 +4,8 @@ use crate::dice::Dice;
 use crate::{limits, texts};
 use second::policy::{first_repeat, Context, Descriptor, Element, Entry, Gid, Grant, Policy, Uid};
 use second::table::{
-    DESCRIPTORS_AT, DESCRIPTOR_WORDS, ENTRIES_AT, ENTRY_WORDS, FUNCTIONS_AT, OBJECTS_AT, UNUSED_AT,
+    DESCRIPTORS_AT, DESCRIPTOR_WORDS, DOMAIN_WORDS_AT, ENTRIES_AT, ENTRY_WORDS, FUNCTIONS_AT,
+    OBJECTS_AT, PATTERN_AT, UNUSED_AT,
 };
 use second::{encode, policy_of, TABLE_WORDS};
 
@@ -69,6 +70,10 @@ pub fn policy(dice: &mut Dice) -> Policy {
         }
         42 => large(dice),
         43..=49 => long_clash(dice),
+        50..=59 => {
+            let sort = *dice.pick(&MEETINGS);
+            meeting(dice, sort)
+        }
         _ => direct(dice),
     }
 }
@@ -106,11 +111,15 @@ fn members(dice: &mut Dice, domains: u16, count: usize) -> Vec<u16> {
 }
 
 /// Two entries of one subject that only long stacks meet: one pattern begins
-/// with functions, the other ends with them.
+/// with functions and domains, the other ends with them.
 fn long_clash(dice: &mut Dice) -> Policy {
     let functions = dice.from_to(2, 40);
+    let share = *dice.pick(&[0, 0, 30, 100]);
     let some = |dice: &mut Dice, count: usize| -> Vec<Element> {
-        let one = |_| Element::Function(dice.below(functions) as u16);
+        let one = |_| match dice.percent(share) {
+            true => Element::Domain(u16::from(dice.percent(20))),
+            false => Element::Function(dice.below(functions) as u16),
+        };
         (0..count).map(one).collect()
     };
     let lengths = (dice.from_to(1, 15), dice.from_to(1, 15));
@@ -119,7 +128,19 @@ fn long_clash(dice: &mut Dice) -> Policy {
         [&begin[..], &[Element::All]].concat(),
         [&[Element::All], &end[..]].concat(),
     ];
-    let entry = |pattern: Vec<Element>, uid: Uid| Entry {
+    let uid = *dice.pick(&[Uid::All, Uid::Root, Uid::User]);
+    let functions = (0..functions).map(|_| u16::from(dice.percent(20)));
+    of_two(functions.collect(), 2, patterns, uid)
+}
+
+/// A policy of two entries with these patterns and domain 0 as their subject.
+fn of_two(
+    functions: Vec<u16>,
+    subject_domains: u16,
+    patterns: [Vec<Element>; 2],
+    uid: Uid,
+) -> Policy {
+    let entry = |pattern: Vec<Element>| Entry {
         subject: 0,
         context: Context {
             pattern,
@@ -131,15 +152,90 @@ fn long_clash(dice: &mut Dice) -> Policy {
         can_read: Vec::new(),
         can_write: Vec::new(),
     };
-    let uid = *dice.pick(&[Uid::All, Uid::Root, Uid::User]);
     Policy {
         object_domains: 0,
-        subject_domains: 2,
+        subject_domains,
         objects: Vec::new(),
-        functions: (0..functions)
-            .map(|_| u16::from(dice.percent(20)))
-            .collect(),
-        entries: patterns.map(|pattern| entry(pattern, uid)).into(),
+        functions,
+        entries: patterns.map(entry).into(),
+    }
+}
+
+/// What meets in two patterns: a domain and another element.
+#[derive(Clone, Copy, Debug, PartialEq, Eq)]
+pub enum Meeting {
+    OwnFunction,
+    OtherFunction,
+    SameDomain,
+    OtherDomain,
+    All,
+    /// A domain without functions, itself or `all`.
+    EmptyDomain,
+}
+
+pub const MEETINGS: [Meeting; 6] = [
+    Meeting::OwnFunction,
+    Meeting::OtherFunction,
+    Meeting::SameDomain,
+    Meeting::OtherDomain,
+    Meeting::All,
+    Meeting::EmptyDomain,
+];
+
+/// Two entries whose patterns are alike but for one meeting or several, and
+/// the `all` at one's end: whether they clash is decided by a domain.
+pub fn meeting(dice: &mut Dice, meeting: Meeting) -> Policy {
+    // Two domains with functions, in any order, and one with none.
+    let mut functions = vec![0, 1];
+    for _ in 0..dice.below(3) {
+        let place = dice.below(functions.len() + 1);
+        functions.insert(place, dice.below(2) as u16);
+    }
+    if dice.percent(50) {
+        functions.reverse();
+    }
+    let mut patterns = [Vec::new(), Vec::new()];
+    let mut put = |pair: [Element; 2], is_turned: bool| {
+        let (first, second) = match is_turned {
+            true => (pair[1], pair[0]),
+            false => (pair[0], pair[1]),
+        };
+        patterns[0].push(first);
+        patterns[1].push(second);
+    };
+    for _ in 0..dice.from_to(1, 3) {
+        for _ in 0..dice.below(2) {
+            let alike = *dice.pick(&[Element::All, Element::Function(0), Element::Domain(1)]);
+            put([alike; 2], false);
+        }
+        put(pair(dice, &functions, meeting), dice.percent(50));
+    }
+    // Mostly a top that both may have.
+    if dice.percent(80) {
+        put([Element::Domain(0); 2], false);
+    }
+    patterns[dice.below(2)].push(Element::All);
+    of_two(functions, 3, patterns, Uid::All)
+}
+
+/// The two elements of a meeting, the domain first.
+fn pair(dice: &mut Dice, functions: &[u16], meeting: Meeting) -> [Element; 2] {
+    let domain = dice.below(2) as u16;
+    let mut function_of = |domain: u16| {
+        let own = (0..).zip(functions).filter(|(_, of)| **of == domain);
+        let own: Vec<u16> = own.map(|(function, _)| function).collect();
+        Element::Function(*dice.pick(&own))
+    };
+    match meeting {
+        Meeting::OwnFunction => [Element::Domain(domain), function_of(domain)],
+        Meeting::OtherFunction => [Element::Domain(domain), function_of(1 - domain)],
+        Meeting::SameDomain => [Element::Domain(domain); 2],
+        Meeting::OtherDomain => [Element::Domain(domain), Element::Domain(1 - domain)],
+        Meeting::All => [Element::Domain(domain), Element::All],
+        Meeting::EmptyDomain => [
+            Element::Domain(2),
+            *dice.pick(&[Element::Domain(2), Element::All]),
+        ],
     }
 }
 
@@ -207,13 +303,25 @@ fn grant(dice: &mut Dice, domains: u16) -> Grant {
     Grant::Domains(some.collect())
 }
 
+/// A function or a subject domain, which there must be. Mostly one of few, so
+/// that patterns meet.
+fn named(dice: &mut Dice, policy: &Policy) -> Element {
+    let (functions, domains) = (policy.functions.len(), policy.subject_domains.into());
+    let few = match dice.percent(8) {
+        true => usize::MAX,
+        false => 5,
+    };
+    match functions == 0 || dice.percent(40) {
+        true => Element::Domain(dice.below(few.min(domains)) as u16),
+        false => Element::Function(dice.below(few.min(functions)) as u16),
+    }
+}
+
 fn context(dice: &mut Dice, policy: &Policy, elements: usize, outer: Option<&Context>) -> Context {
-    let functions = policy.functions.len();
     let wild = *dice.pick(&[20, 50, 80, 100]);
-    let element = |dice: &mut Dice| match dice.percent(wild) || functions == 0 {
+    let element = |dice: &mut Dice| match dice.percent(wild) {
         true => Element::All,
-        // Few functions, so that patterns meet.
-        false => Element::Function(dice.below(functions.min(5)) as u16),
+        false => named(dice, policy),
     };
     let length = if dice.percent(4) {
         16
@@ -256,7 +364,7 @@ pub fn damage(dice: &mut Dice, words: &mut Vec<u16>) {
         3 => word.wrapping_sub(1),
         4 => dice.below(20) as u16,
         _ => *dice.pick(&[
-            0, 1, 2, 16, 17, 128, 129, 255, 256, 257, 1_024, 1_025, 65_535,
+            0, 1, 2, 16, 17, 128, 129, 255, 256, 257, 1_024, 1_025, 1_026, 1_152, 1_153, 65_535,
         ]),
     };
 }
@@ -272,7 +380,7 @@ fn edge(dice: &mut Dice, words: &mut [u16]) {
     let other = ENTRIES_AT + ENTRY_WORDS * dice.below(entries);
     let descriptor = DESCRIPTORS_AT + DESCRIPTOR_WORDS * dice.below(5);
     let context = *dice.pick(&[entry, descriptor]);
-    let (place, word) = match dice.below(14) {
+    let (place, word) = match dice.below(16) {
         0 => (
             OBJECTS_AT + dice.below(objects.into()).min(1_023),
             object_domains,
@@ -283,18 +391,29 @@ fn edge(dice: &mut Dice, words: &mut [u16]) {
         ),
         2 => (entry + 20, subject_domains),
         3 | 4 => (
-            context + 4 + dice.below(4),
+            context + PATTERN_AT + dice.below(4),
             functions.wrapping_add(*dice.pick(&[0, 1, 2])),
         ),
-        5 => (context, *dice.pick(&[0, 1, 16, 17])),
-        6 | 7 => (context + dice.from_to(1, 2), dice.below(5) as u16),
-        8 => (
+        5 | 6 => (
+            context + PATTERN_AT + dice.below(4),
+            // The last domain, the first past it, and the last word before any.
+            *dice.pick(&[
+                DOMAIN_WORDS_AT
+                    .wrapping_add(subject_domains)
+                    .wrapping_sub(1),
+                DOMAIN_WORDS_AT.wrapping_add(subject_domains),
+                DOMAIN_WORDS_AT - 1,
+            ]),
+        ),
+        7 => (context, *dice.pick(&[0, 1, 16, 17])),
+        8 | 9 => (context + dice.from_to(1, 2), dice.below(5) as u16),
+        10 => (
             entry + dice.from_to(21, 22),
             *dice.pick(&[0, 1, 255, 256, 257]),
         ),
-        9 => return bit(dice, &mut words[entry + 24..], subject_domains),
-        10 => return bit(dice, &mut words[entry + 33..], subject_domains),
-        11 => return bit(dice, &mut words[descriptor + 20..], object_domains),
+        11 => return bit(dice, &mut words[entry + 24..], subject_domains),
+        12 => return bit(dice, &mut words[entry + 33..], subject_domains),
+        13 => return bit(dice, &mut words[descriptor + 20..], object_domains),
         // Context and subject: the whole principal.
         _ => return words.copy_within(entry..entry + 21, other),
     };

@@ -30,9 +30,11 @@ fn large_texts_are_answered_as_said() {
 }
 
 #[test]
-fn six_of_them_fill_out_to_too_much() {
+fn seven_of_them_fill_out_to_too_much() {
     let is_long = |large: &&Large| filled(&large.text).is_ok_and(|filled| filled.len() > 65_536);
-    assert_eq!(texts().iter().filter(is_long).count(), 6);
+    let long: Vec<&str> = texts().iter().filter(is_long).map(|l| l.name).collect();
+    assert_eq!(long.len(), 7);
+    assert!(!long.contains(&"patterns with domains"));
 }
 
 fn elements(policy: &Policy) -> Vec<Element> {
@@ -48,6 +50,15 @@ fn elements(policy: &Policy) -> Vec<Element> {
 #[test]
 fn they_have_much_of_one_thing() {
     assert_eq!(elements(&policy("patterns")).len(), 6_144);
+    for name in ["patterns with domains", "one hash, domains"] {
+        let elements = elements(&policy(name));
+        let is_domain = |element: &&Element| matches!(element, Element::Domain(_));
+        let named: HashSet<&Element> = elements.iter().filter(is_domain).collect();
+        assert_eq!(named.len(), 127);
+        let domains = elements.iter().filter(is_domain).count();
+        println!("{name}: {domains} domains in {} elements", elements.len());
+        assert!(2 * domains >= elements.len() - 20);
+    }
     let limit = policy("every limit");
     let descriptors = limit.entries.iter().flat_map(|e| e.descriptors()).count();
     assert_eq!((limit.object_domains, limit.subject_domains), (128, 128));
@@ -89,4 +100,19 @@ fn those_against_the_hash_share_it() {
             elements(&policy(name)).len()
         );
     }
+}
+
+#[test]
+fn domains_and_their_functions_share_a_hash() {
+    let text = String::from_utf8(text("one hash, domains").to_vec()).unwrap();
+    let names = |before: &'static str| text.lines().filter_map(move |l| l.strip_prefix(before));
+    let domains = names("- name: ").filter(|name| *name != "S");
+    let functions = names("  subjects: [").map(|list| list.trim_end_matches(']'));
+    let functions = functions.filter(|list| !list.is_empty());
+    let hashes = |all: Vec<&str>| {
+        let apart: HashSet<u32> = all.iter().map(|name| hash(name.as_bytes())).collect();
+        (all.len(), apart.len())
+    };
+    assert_eq!(hashes(domains.collect()), (127, 1));
+    assert_eq!(hashes(functions.collect()), (127, 1));
 }

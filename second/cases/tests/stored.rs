@@ -4,12 +4,13 @@
 use cases::events::OwnEvent;
 use cases::findings::{Finding, Search};
 use cases::names::Question;
+use cases::patterns::has_domain;
 use cases::stored::{files, runs, UNTOUCHED};
-use cases::{ends, fillings, readings};
+use cases::{ends, fillings, patterns, readings};
 use second::answer::REFUSED;
 use second::{
-    fill, filled, filler, first_fault, judge, list, names, overlap, policy_of, read, Answer,
-    Overlap, Refusal, Verdict, EXAMPLE, TABLE_WORDS,
+    decode, fill, filled, filler, first_fault, judge, list, names, overlap, policy_of, read,
+    Answer, Overlap, Policy, Refusal, Verdict, EXAMPLE, TABLE_WORDS,
 };
 use std::cmp::Ordering::{Equal, Greater, Less};
 use std::collections::HashSet;
@@ -121,13 +122,20 @@ fn trials_are_those_of_document_01() {
 #[test]
 fn judge_cases_replay() {
     let mut replay = Replay::of("judge.cases");
-    let mut seen = HashSet::new();
+    let (mut seen, mut by_domain) = (HashSet::new(), HashSet::new());
     for _ in 0..replay.number(4) {
         let table = replay.table();
+        let policy = decode(&table);
         for _ in 0..replay.number(4) {
             let (event, answer) = replay.event();
             let verdict = judge(&table, event.operation, event.target, &event.lent());
             assert_eq!(verdict.answer(), answer);
+            if let (Some(policy), Verdict::Allowed(entry)) = (&policy, verdict) {
+                let entry = &policy.entries[usize::from(entry)];
+                let objects = entry.descriptors().map(|d| &d.context);
+                by_domain.insert(("own", has_domain(&entry.context)));
+                by_domain.insert(("object", objects.into_iter().any(has_domain)));
+            }
             // Whichever entry it is that allows.
             seen.insert(match verdict {
                 Verdict::Allowed(_) => Verdict::Allowed(0),
@@ -141,16 +149,18 @@ fn judge_cases_replay() {
     let allowed = [Verdict::Inside, Verdict::Allowed(0)];
     let needed = violations.chain(refusals).chain(allowed);
     assert_eq!(seen, needed.collect());
+    assert_eq!(by_domain.len(), 4);
 }
 
 #[test]
 fn overlap_cases_replay() {
     let mut replay = Replay::of("overlap.cases");
-    let mut seen = HashSet::new();
+    let (mut seen, mut by_domain) = (HashSet::new(), HashSet::new());
     for _ in 0..replay.number(4) {
         let table = replay.table();
         let mut witness = vec![0; replay.number(2) as usize];
         let report = overlap(&table, &mut witness);
+        by_domain.extend(decode(&table).map(|policy| domains_in(&policy, report)));
         assert_eq!(report.answer(), Answer::of(replay.number(8)));
         let words = replay.words();
         assert_eq!(words, witness[..words.len()]);
@@ -162,6 +172,30 @@ fn overlap_cases_replay() {
     }
     let is_long = |report: &Overlap| matches!(report, Overlap::Clash { length: 21.., .. });
     assert!(seen.iter().any(is_long));
+    // Clear and clashes, of tables or pairs with no domain, one and two.
+    for needed in [
+        (false, 0),
+        (false, 1),
+        (false, 2),
+        (true, 0),
+        (true, 1),
+        (true, 2),
+    ] {
+        assert!(by_domain.contains(&needed), "{needed:?}");
+    }
+}
+
+/// Whether a report is a clash, and how many of its two entries have a domain;
+/// of all entries, up to two, where there is no pair.
+fn domains_in(policy: &Policy, report: Overlap) -> (bool, usize) {
+    let own = |entry: usize| usize::from(has_domain(&policy.entries[entry].context));
+    match report {
+        Overlap::Clash { lower, higher, .. } => (true, own(lower.into()) + own(higher.into())),
+        _ => (
+            false,
+            (0..policy.entries.len()).map(own).sum::<usize>().min(2),
+        ),
+    }
 }
 
 #[test]
@@ -397,6 +431,15 @@ fn line_ends_are_taken_and_refused() {
     let number = |text: Vec<u8>| policy_of(&text).err().map_or(0, |refusal| refusal.number);
     let numbers: Vec<u16> = ends::stored().into_iter().map(number).collect();
     assert_eq!(numbers, [0, 0, 3, 3, 3, 3, 3, 3]);
+}
+
+/// Five texts with domains in patterns that are taken, and six that are not.
+#[test]
+fn patterns_are_taken_and_refused() {
+    let number = |text: Vec<u8>| policy_of(&text).err().map_or(0, |refusal| refusal.number);
+    let numbers: Vec<u16> = patterns::stored().into_iter().map(number).collect();
+    assert_eq!(numbers, [0, 0, 0, 0, 0, 8, 8, 8, 5, 5, 11]);
+    assert_eq!(patterns::tables().len(), 5);
 }
 
 #[test]

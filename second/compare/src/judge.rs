@@ -4,6 +4,7 @@ use crate::case::Check;
 use crate::show;
 use crate::wire::{Call, Function, Replies, Requests};
 use cases::events::{self, OwnEvent};
+use cases::patterns::has_domain;
 use cases::{tables, Dice};
 use second::judge::{judge_policy, Verdict};
 use second::refusal::NOT_WELL_FORMED;
@@ -53,7 +54,7 @@ fn ask_all(
             check(plain, event, replies).map_err(|fault| {
                 show::difference(&[show::table(&words), show::event(event)], fault)
             })?;
-            mix.count(name(plain));
+            mix.count(name(policy.as_ref(), plain));
         }
         let table = replies
             .shown()
@@ -94,9 +95,15 @@ fn check(plain: Verdict, event: &OwnEvent, replies: &mut Replies<'_>) -> Result<
         .check("allocation stack", &event.allocation)
 }
 
-fn name(verdict: Verdict) -> String {
+fn name(policy: Option<&Policy>, verdict: Verdict) -> String {
+    let names_domain = |entry: u16| {
+        policy.is_some_and(|policy| has_domain(&policy.entries[usize::from(entry)].context))
+    };
     match verdict {
         Verdict::Inside => "inside one domain".to_string(),
+        Verdict::Allowed(entry) if names_domain(entry) => {
+            "allowed by an entry that names a domain".to_string()
+        }
         Verdict::Allowed(_) => "allowed by an entry".to_string(),
         Verdict::Violation(number) => format!("violation {number}"),
         Verdict::Refused(number) => format!("refused {number}"),

@@ -4,8 +4,9 @@ use crate::case::Check;
 use crate::lent::Value;
 use crate::show;
 use crate::wire::{Call, Function, Replies, Requests};
+use cases::patterns::{any_domain, has_domain, Whose};
 use cases::{tables, Dice};
-use second::{overlap, Answer, Overlap};
+use second::{decode, overlap, Answer, Overlap, Policy};
 
 const TABLE: u32 = 0;
 const WITNESS: u32 = 1;
@@ -27,6 +28,10 @@ pub fn ask(_: u64, dice: &mut Dice, requests: &mut Requests) -> Check {
             show::difference(&[show::table(&words), room], fault)
         })?;
         mix.count(name(plain));
+        let policy = decode(&words).filter(|policy| any_domain(policy, Whose::Entry));
+        if let Some(policy) = policy {
+            mix.count(name_with_domains(&policy, plain));
+        }
         Ok(())
     })
 }
@@ -53,5 +58,18 @@ fn name(report: Overlap) -> String {
         Overlap::Clear => "clear".to_string(),
         Overlap::Clash { length, .. } => format!("clash of {length:>2}"),
         Overlap::Refused(number) => format!("refused {number}"),
+    }
+}
+
+/// The same where some entry names a domain.
+fn name_with_domains(policy: &Policy, report: Overlap) -> &'static str {
+    let names_domain = |entry: u8| has_domain(&policy.entries[usize::from(entry)].context);
+    match report {
+        Overlap::Clash { lower, higher, .. } if names_domain(lower) || names_domain(higher) => {
+            "with domains, clash of one that names one"
+        }
+        Overlap::Clash { .. } => "with domains, clash of others",
+        Overlap::Clear => "with domains, clear",
+        Overlap::Refused(_) => "with domains, refused",
     }
 }

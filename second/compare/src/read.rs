@@ -1,11 +1,12 @@
 //! `read`: a text to its table, or to the refusal of it.
 
-use crate::case::Check;
+use crate::case::{Check, Mix};
 use crate::page::{outcome, told};
 use crate::show;
 use crate::wire::{Call, Function, Replies, Requests};
+use cases::patterns::{any_domain, Whose};
 use cases::{texts, Dice};
-use second::{Answer, Refusal, TABLE_WORDS};
+use second::{decode, Answer, Refusal, TABLE_WORDS};
 
 const TEXT: u32 = 0;
 const TABLE: u32 = 1;
@@ -30,6 +31,7 @@ pub fn ask(case: u64, dice: &mut Dice, requests: &mut Requests) -> Check {
             show::difference(&[show::text(&text), room], fault)
         })?;
         mix.count(outcome(plain, "accepted"));
+        count_domains(&expected, mix);
         Ok(())
     })
 }
@@ -46,6 +48,17 @@ fn room(dice: &mut Dice) -> usize {
         0 => *dice.pick(&[0, 1, TABLE_WORDS / 2]),
         1 => TABLE_WORDS - 1,
         _ => TABLE_WORDS + enough,
+    }
+}
+
+/// Whose patterns name domains, in a table that was read.
+fn count_domains(table: &[u16], mix: &mut Mix) {
+    let Some(policy) = decode(table) else { return };
+    if any_domain(&policy, Whose::Entry) {
+        mix.count("accepted, a domain in an execution context");
+    }
+    if any_domain(&policy, Whose::Object) {
+        mix.count("accepted, a domain in an object context");
     }
 }
 

@@ -3,7 +3,9 @@
 use crate::case::Check;
 use crate::show;
 use crate::wire::{Call, Function, Replies, Requests};
+use cases::patterns::{any_domain, Whose};
 use cases::{tables, Dice};
+use second::decode;
 
 pub fn ask(_: u64, dice: &mut Dice, requests: &mut Requests) -> Check {
     let words = if dice.percent(50) {
@@ -19,6 +21,9 @@ pub fn ask(_: u64, dice: &mut Dice, requests: &mut Requests) -> Check {
         check(&words, plain, replies)
             .map_err(|fault| show::difference(&[show::table(&words)], fault))?;
         mix.count(plain);
+        if decode(&words).is_some_and(|policy| any_domain(&policy, Whose::Entry)) {
+            mix.count("true, with a domain in a pattern");
+        }
         Ok(())
     })
 }

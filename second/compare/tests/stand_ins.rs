@@ -323,6 +323,82 @@ fn wrong_line_ends_are_found() {
     }
 }
 
+/// Domains in patterns, taken otherwise.
+#[test]
+fn wrong_domains_in_patterns_are_found() {
+    let faults = [
+        (
+            "well_formed",
+            "a domain may have any number",
+            "proved: \"true\"",
+        ),
+        (
+            "well_formed",
+            "no domain is an element",
+            "proved: \"false\"",
+        ),
+        ("judge", "a domain meets no frame", "plain:  Answer"),
+        ("judge", "a domain is its first function", "plain:  Answer"),
+        (
+            "judge",
+            "a domain without functions is function 0",
+            "plain:  Answer { class: 2",
+        ),
+        (
+            "judge",
+            "a domain meets no frame of an allocation",
+            "plain:  Answer { class: 4",
+        ),
+        (
+            "judge",
+            "a domain fits a static object",
+            "proved: Answer { class: 4",
+        ),
+        (
+            "judge",
+            "an unlisted frame lies in domain 0",
+            "plain:  Answer { class: 2",
+        ),
+        (
+            "overlap",
+            "a domain is its first function",
+            "plain:  \"class",
+        ),
+        (
+            "overlap",
+            "a domain without functions is function 0",
+            "plain:  \"class",
+        ),
+        (
+            "overlap",
+            "a witness is higher in a domain",
+            "witness: place",
+        ),
+        ("read", "a domain is read as a function", "table: place"),
+        ("read", "names in patterns are refused", "class 2"),
+        (
+            "read",
+            "an unknown name in a pattern is malformed",
+            "number 8",
+        ),
+        ("read", "a domain of the other map is taken", "number 8"),
+        (
+            "read",
+            "principals are compared by what they meet",
+            "number 11",
+        ),
+        (
+            "fill",
+            "a domain in a pattern is filled as all",
+            "plain:  Answer",
+        ),
+    ];
+    for (function, fault, told) in faults {
+        // As many cases as the gate runs.
+        found(fault, &format!("--only {function} --count 3000"), &[told]);
+    }
+}
+
 /// These outcomes are among the cases that the gate runs.
 fn has_outcomes(function: &str, refusals: impl Iterator<Item = u16>, others: &[&str]) {
     let line = format!("--only {function} --count 3000");
@@ -336,10 +412,47 @@ fn has_outcomes(function: &str, refusals: impl Iterator<Item = u16>, others: &[&
     println!("{printed}");
 }
 
+#[test]
+fn tables_have_every_outcome() {
+    let others = ["true", "false", "true, with a domain in a pattern"];
+    has_outcomes("well_formed", 0..0, &others);
+}
+
+#[test]
+fn verdicts_have_every_outcome() {
+    let violations = ["violation 1", "violation 2", "violation 3", "violation 4"];
+    let allowed = [
+        "inside one domain",
+        "allowed by an entry",
+        "allowed by an entry that names a domain",
+    ];
+    let others = [&violations[..], &allowed].concat();
+    has_outcomes("judge", 20..=23, &others);
+}
+
+#[test]
+fn reports_have_every_outcome() {
+    let others = [
+        "clear",
+        "clash of  1",
+        "clash of  2",
+        "clash of 20",
+        "with domains, clear",
+        "with domains, clash of one that names one",
+        "with domains, clash of others",
+    ];
+    has_outcomes("overlap", [20, 40].into_iter(), &others);
+}
+
 /// Every refusal, and every limit.
 #[test]
 fn readings_have_every_outcome() {
-    has_outcomes("read", 1..=11, &["accepted"]);
+    let others = [
+        "accepted",
+        "accepted, a domain in an execution context",
+        "accepted, a domain in an object context",
+    ];
+    has_outcomes("read", 1..=11, &others);
 }
 
 #[test]
@@ -437,7 +550,9 @@ fn bench_times_a_stand_in_and_finds_other_answers() {
     let printed = String::from_utf8(timed.stdout).unwrap();
     assert!(timed.status.success(), "{printed}");
     let rows = [
-        "read: patterns",
+        "read: patterns ",
+        "fill: patterns with domains",
+        "read: one hash, domains",
         "page: one hash",
         "fill: short entries",
         "name: long names",
@@ -447,6 +562,9 @@ fn bench_times_a_stand_in_and_finds_other_answers() {
         "the table test",
         "the report",
         "64 frames",
+        "domains: the table test",
+        "domains: the report",
+        "domains: 64 frames",
     ];
     for row in rows {
         assert!(printed.contains(row), "{printed}");

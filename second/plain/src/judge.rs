@@ -119,17 +119,14 @@ fn verdict(
     if is_code && domain == subject {
         return Verdict::Inside;
     }
-    let entries = &policy.entries;
-    let Some(first) = entries
-        .iter()
-        .position(|e| entry_matches(e, subject, event))
-    else {
+    let (entries, functions) = (&policy.entries, &policy.functions);
+    let is_match = |entry: &Entry| entry_matches(functions, entry, subject, event);
+    let Some(first) = entries.iter().position(is_match) else {
         return Verdict::Violation(3);
     };
     // Few entries grant, and to ask for that is quick: so it is asked first.
-    let allows = |entry: &Entry| {
-        grants(entry, operation, domain, event) && entry_matches(entry, subject, event)
-    };
+    let allows =
+        |entry: &Entry| grants(functions, entry, operation, domain, event) && is_match(entry);
     match entries[first..].iter().position(allows) {
         Some(after) => Verdict::Allowed((first + after) as u16),
         None => Verdict::Violation(4),
@@ -139,22 +136,28 @@ fn verdict(
 /// "An entry matches when the top frame's domain is its subject, the pattern
 /// matches the whole stack, and uid fits (`root` is 0, `user` is not 0, a
 /// variable binds anything)." Any gid fits.
-fn entry_matches(entry: &Entry, subject: u16, event: &Event<'_>) -> bool {
+fn entry_matches(functions: &[u16], entry: &Entry, subject: u16, event: &Event<'_>) -> bool {
     let uid = match entry.context.uid {
         Uid::All | Uid::Variable => true,
         Uid::Root => event.uid == 0,
         Uid::User => event.uid != 0,
     };
-    entry.subject == subject && uid && matches(&entry.context.pattern, event.stack)
+    entry.subject == subject && uid && matches(functions, &entry.context.pattern, event.stack)
 }
 
-fn grants(entry: &Entry, operation: Operation, domain: u16, event: &Event<'_>) -> bool {
+fn grants(
+    functions: &[u16],
+    entry: &Entry,
+    operation: Operation,
+    domain: u16,
+    event: &Event<'_>,
+) -> bool {
     let one = |descriptors: &[Descriptor]| {
         // "Granted by one descriptor that lists the domain and whose context
         // fits."
         descriptors
             .iter()
-            .any(|d| d.objects.holds(domain) && object_fits(&d.context, event))
+            .any(|d| d.objects.holds(domain) && object_fits(functions, &d.context, event))
     };
     match operation {
         Operation::Read => one(&entry.can_read),
@@ -167,7 +170,7 @@ fn grants(entry: &Entry, operation: Operation, domain: u16, event: &Event<'_>) -
 /// "An object context fits an allocated object likewise, a variable there
 /// needing the bound number. It fits a static object only with every pattern
 /// element `all` and uid and gid `all`."
-fn object_fits(context: &Context, event: &Event<'_>) -> bool {
+fn object_fits(functions: &[u16], context: &Context, event: &Event<'_>) -> bool {
     if event.allocation.is_empty() {
         return context.pattern.iter().all(|e| *e == Element::All)
             && context.uid == Uid::All
@@ -183,5 +186,5 @@ fn object_fits(context: &Context, event: &Event<'_>) -> bool {
         Gid::All => true,
         Gid::Variable => event.allocation_gid == event.gid,
     };
-    uid && gid && matches(&context.pattern, event.allocation)
+    uid && gid && matches(functions, &context.pattern, event.allocation)
 }

@@ -2,15 +2,20 @@
 
 use crate::policy::Element;
 
-/// Whether a pattern matches a whole stack.
+/// Whether a pattern matches a whole stack, by the domain of each function.
 ///
 /// "An empty pattern meets an empty stack; a first function equals the first
 /// frame and the rest of the pattern against the rest of the stack matches; a
-/// first `all` either drops out or swallows one frame and stays." So the
-/// functions after the last `all` are the top frames, those before the first
-/// one the base, and each run of functions in between may be taken where it
-/// first stands: the `all` after it swallows the rest.
-pub fn matches(pattern: &[Element], stack: &[u16]) -> bool {
+/// first `all` either drops out or swallows one frame and stays." A domain meets
+/// one frame as a function does. So the elements after the last `all` meet the
+/// top frames, those before the first one the base, and each run of elements in
+/// between may be taken where it first stands: the `all` after it swallows the
+/// rest.
+pub fn matches(functions: &[u16], pattern: &[Element], stack: &[u16]) -> bool {
+    let stands = |elements: &[Element], frames: &[u16]| {
+        let mut pairs = elements.iter().zip(frames);
+        pairs.all(|(element, &frame)| element.meets(functions, frame))
+    };
     let Some(last) = pattern.iter().rposition(is_all) else {
         return pattern.len() == stack.len() && stands(pattern, stack);
     };
@@ -41,10 +46,4 @@ pub fn matches(pattern: &[Element], stack: &[u16]) -> bool {
 
 fn is_all(element: &Element) -> bool {
     *element == Element::All
-}
-
-/// Whether each of these functions is its frame.
-fn stands(functions: &[Element], frames: &[u16]) -> bool {
-    let mut pairs = functions.iter().zip(frames);
-    pairs.all(|(element, frame)| *element == Element::Function(*frame))
 }

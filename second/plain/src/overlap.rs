@@ -76,11 +76,12 @@ pub fn overlap(table: &[u16], witness: &mut [u16]) -> Overlap {
     }
 }
 
-/// The pair, "lower entry least, then higher least".
+/// The pair, "lower entry least, then higher least", of a sound policy.
 pub fn first_clash(policy: &Policy) -> Option<Clash> {
+    let functions = Functions::of(policy);
     for (lower, one) in policy.entries.iter().enumerate() {
         for (higher, other) in policy.entries.iter().enumerate().skip(lower + 1) {
-            if let Some(stack) = pair_clash(policy, one, other) {
+            if let Some(stack) = pair_clash(&functions, one, other) {
                 let user = one.context.uid == Uid::User || other.context.uid == Uid::User;
                 return Some(Clash {
                     lower: lower as u8,
@@ -94,8 +95,31 @@ pub fn first_clash(policy: &Policy) -> Option<Clash> {
     None
 }
 
+/// The functions of a policy.
+struct Functions<'p> {
+    /// The domain of each.
+    domains: &'p [u16],
+    /// The lowest of each domain that has any.
+    lowest: Vec<Option<u16>>,
+}
+
+impl<'p> Functions<'p> {
+    fn of(policy: &'p Policy) -> Functions<'p> {
+        let domains = &policy.functions;
+        let mut lowest = vec![None; policy.subject_domains.into()];
+        for (function, &domain) in (0..).zip(domains) {
+            lowest[usize::from(domain)].get_or_insert(function);
+        }
+        Functions { domains, lowest }
+    }
+
+    fn lowest_of(&self, domain: u16) -> Option<u16> {
+        self.lowest[usize::from(domain)]
+    }
+}
+
 /// The lowest of the shortest stacks that two entries both match.
-pub fn pair_clash(policy: &Policy, one: &Entry, other: &Entry) -> Option<Vec<u16>> {
+fn pair_clash(functions: &Functions<'_>, one: &Entry, other: &Entry) -> Option<Vec<u16>> {
     // "Only `root` against `user` are apart" (point 20).
     let apart = matches!(
         (one.context.uid, other.context.uid),
@@ -104,49 +128,50 @@ pub fn pair_clash(policy: &Policy, one: &Entry, other: &Entry) -> Option<Vec<u16
     if apart || one.subject != other.subject {
         return None;
     }
-    let pair = Pair::new(policy, one, other);
+    let pair = Pair {
+        functions,
+        subject: one.subject,
+        one: &one.context.pattern,
+        other: &other.context.pattern,
+    };
     let stack = pair.lowest(pair.shortest()?);
-    debug_assert!(matches(pair.one, &stack) && matches(pair.other, &stack));
+    let is_match = |pattern| matches(functions.domains, pattern, &stack);
+    debug_assert!(is_match(pair.one) && is_match(pair.other));
     Some(stack)
 }
 
 /// A place in each of two patterns.
 type Places = (usize, usize);
 
+/// The patterns of two entries that have one subject.
 struct Pair<'p> {
+    functions: &'p Functions<'p>,
+    subject: u16,
     one: &'p [Element],
     other: &'p [Element],
-    /// The frames worth trying, lowest first: those a pattern names, the
-    /// lowest function that may be top, and 0. A function that neither names
-    /// does nothing that a lower one of these would not do.
-    frames: BTreeSet<u16>,
-    /// Those of them that may be top: functions of the subject.
-    tops: BTreeSet<u16>,
 }
 
-impl<'p> Pair<'p> {
-    fn new(policy: &Policy, one: &'p Entry, other: &'p Entry) -> Pair<'p> {
-        let (one, other, subject) = (&one.context.pattern, &other.context.pattern, one.subject);
-        let is_top = |&frame: &u16| policy.functions.get(usize::from(frame)) == Some(&subject);
-        let named = |element: &Element| match element {
-            Element::All => None,
-            Element::Function(function) => Some(*function),
-        };
-        let mut frames: BTreeSet<u16> = one.iter().chain(other).filter_map(named).collect();
-        frames.insert(0);
-        frames.extend((0..policy.functions.len() as u16).find(is_top));
-        let tops = frames.iter().copied().filter(is_top).collect();
-        Pair {
-            one,
-            other,
-            frames,
-            tops,
+impl Pair<'_> {
+    /// Whether a frame may be top: a function of the subject.
+    fn is_top(&self, frame: u16) -> bool {
+        Element::Domain(self.subject).meets(self.functions.domains, frame)
+    }
+
+    /// One pattern reads one frame at a place: an `all` swallows the frame and
+    /// stays, any other element that meets it goes on.
+    fn step(&self, pattern: &[Element], place: usize, frame: u16) -> Option<usize> {
+        match pattern.get(place)? {
+            Element::All => Some(place),
+            one => one
+                .meets(self.functions.domains, frame)
+                .then_some(place + 1),
         }
     }
 
     /// The places after one frame, before any `all` drops out.
     fn after(&self, (p, q): Places, frame: u16) -> Option<Places> {
-        Some((step(self.one, p, frame)?, step(self.other, q, frame)?))
+        let one = self.step(self.one, p, frame)?;
+        Some((one, self.step(self.other, q, frame)?))
     }
 
     /// The places one step further without a frame: "a first `all` drops
@@ -163,12 +188,16 @@ impl<'p> Pair<'p> {
         rests.into_iter().all(|element| *element == Element::All)
     }
 
-    /// The frames that may lead on from some places. Under two `all` both
-    /// patterns stay, so there only a top is worth a frame.
-    fn frames_at(&self, (p, q): Places) -> Option<u16> {
-        match (self.one.get(p)?, self.other.get(q)?) {
-            (Element::Function(function), _) | (_, Element::Function(function)) => Some(*function),
-            (Element::All, Element::All) => self.tops.first().copied(),
+    /// A frame that leads on from some places if any does: which function of a
+    /// domain it is makes no difference. Under two `all` both patterns stay, so
+    /// there only a top is worth a frame.
+    fn frame_at(&self, (p, q): Places) -> Option<u16> {
+        match (*self.one.get(p)?, *self.other.get(q)?) {
+            (Element::Function(function), _) | (_, Element::Function(function)) => Some(function),
+            (Element::Domain(domain), _) | (_, Element::Domain(domain)) => {
+                self.functions.lowest_of(domain)
+            }
+            (Element::All, Element::All) => self.functions.lowest_of(self.subject),
         }
     }
 
@@ -185,13 +214,13 @@ impl<'p> Pair<'p> {
             let mut next = Vec::new();
             while let Some(places) = layer.pop() {
                 layer.extend(self.drops(places).filter(&mut is_new));
-                let Some(frame) = self.frames_at(places) else {
+                let Some(frame) = self.frame_at(places) else {
                     continue;
                 };
                 let Some(after) = self.after(places, frame) else {
                     continue;
                 };
-                if self.tops.contains(&frame) && self.ends(after) {
+                if self.is_top(frame) && self.ends(after) {
                     return Some(length);
                 }
                 next.push(after);
@@ -202,9 +231,34 @@ impl<'p> Pair<'p> {
         None
     }
 
-    /// From which places both rests match some stack of 0, 1, 2, .. frames
-    /// (the last of them a top), up to a length.
-    fn ending(&self, length: usize) -> Vec<HashSet<Places>> {
+    /// The frames worth trying: the functions that a pattern names, the lowest
+    /// of each domain that one names and of the subject, and 0. Any other does
+    /// nothing that a lower one of these would not do.
+    fn frames(&self) -> BTreeSet<u16> {
+        let frame = |element: Element| match element {
+            Element::All => Some(0),
+            Element::Function(function) => Some(function),
+            Element::Domain(domain) => self.functions.lowest_of(domain),
+        };
+        let named = self.one.iter().chain(self.other).copied();
+        let others = [Element::All, Element::Domain(self.subject)];
+        named.chain(others).filter_map(frame).collect()
+    }
+
+    /// The frames to choose from when so many are left to come, itself
+    /// counted, lowest first: the last one must be a top.
+    fn choices<'f>(
+        &'f self,
+        left: usize,
+        frames: &'f BTreeSet<u16>,
+    ) -> impl Iterator<Item = u16> + 'f {
+        let may_come = move |&frame: &u16| left > 1 || self.is_top(frame);
+        frames.iter().copied().filter(may_come)
+    }
+
+    /// From which places both rests match some stack of 0, 1, 2, .. of these
+    /// frames (the last of them a top), up to a length.
+    fn ending(&self, length: usize, frames: &BTreeSet<u16>) -> Vec<HashSet<Places>> {
         let (ps, qs) = (self.one.len(), self.other.len());
         let mut ending: Vec<HashSet<Places>> = Vec::new();
         for left in 0..=length {
@@ -217,7 +271,7 @@ impl<'p> Pair<'p> {
                     0 => self.ends(places),
                     _ => {
                         self.drops(places).any(|dropped| here.contains(&dropped))
-                            || self.choices(left).any(|frame| {
+                            || self.choices(left, frames).any(|frame| {
                                 self.after(places, frame)
                                     .is_some_and(|after| ending[left - 1].contains(&after))
                             })
@@ -232,17 +286,11 @@ impl<'p> Pair<'p> {
         ending
     }
 
-    /// The frames to choose from when so many are left to come, itself
-    /// counted: the last one must be a top.
-    fn choices(&self, left: usize) -> impl Iterator<Item = u16> + use<'_, 'p> {
-        let frames = if left == 1 { &self.tops } else { &self.frames };
-        frames.iter().copied()
-    }
-
     /// Of the stacks of this length, "the lowest function numbers from the
     /// base up": each frame is the lowest after which the rest still ends.
     fn lowest(&self, length: usize) -> Vec<u16> {
-        let ending = self.ending(length);
+        let frames = self.frames();
+        let ending = self.ending(length, &frames);
         let mut here = HashSet::from([(0, 0)]);
         let mut stack = Vec::new();
         for left in (1..=length).rev() {
@@ -254,21 +302,13 @@ impl<'p> Pair<'p> {
                 let reached = here.iter().filter_map(|&places| self.after(places, frame));
                 reached.filter(|p| ending[left - 1].contains(p)).collect()
             };
-            let Some(frame) = self.choices(left).find(|&frame| !after(frame).is_empty()) else {
+            let mut choices = self.choices(left, &frames);
+            let Some(frame) = choices.find(|&frame| !after(frame).is_empty()) else {
                 break;
             };
             stack.push(frame);
             here = after(frame);
         }
         stack
-    }
-}
-
-/// One pattern reads one frame at a place: a function goes on, an `all`
-/// swallows the frame and stays.
-fn step(pattern: &[Element], place: usize, frame: u16) -> Option<usize> {
-    match pattern.get(place)? {
-        Element::All => Some(place),
-        Element::Function(function) => (*function == frame).then_some(place + 1),
     }
 }

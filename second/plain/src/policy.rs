@@ -11,6 +11,21 @@ pub const DESCRIPTORS: usize = 256;
 pub enum Element {
     All,
     Function(u16),
+    /// A subject domain.
+    Domain(u16),
+}
+
+impl Element {
+    /// Whether the element meets one frame, by the domain of each function. A
+    /// domain meets "any one frame whose function lies in that domain"; an
+    /// unlisted frame lies in none.
+    pub fn meets(self, functions: &[u16], frame: u16) -> bool {
+        match self {
+            Element::All => true,
+            Element::Function(function) => function == frame,
+            Element::Domain(domain) => functions.get(usize::from(frame)) == Some(&domain),
+        }
+    }
 }
 
 /// The sort of a uid.
@@ -194,6 +209,7 @@ impl Policy {
             && context.pattern.iter().all(|element| match element {
                 Element::All => true,
                 Element::Function(function) => usize::from(*function) < self.functions.len(),
+                Element::Domain(domain) => *domain < self.subject_domains,
             })
     }
 }

@@ -13,9 +13,9 @@ use crate::reader;
 use crate::refusal::Refusal;
 use crate::scalars;
 use crate::table::{
-    CALL_AT, DESCRIPTORS_AT, DESCRIPTOR_GRANT_AT, DESCRIPTOR_WORDS, ENTRIES_AT, ENTRY_WORDS,
-    FUNCTIONS_AT, MARK, OBJECTS_AT, PATTERN_AT, READS_AT, RETURN_AT, SUBJECT_AT, TABLE_WORDS,
-    WRITES_AT,
+    CALL_AT, DESCRIPTORS_AT, DESCRIPTOR_GRANT_AT, DESCRIPTOR_WORDS, DOMAIN_WORDS_AT, ENTRIES_AT,
+    ENTRY_WORDS, FUNCTIONS_AT, MARK, OBJECTS_AT, PATTERN_AT, READS_AT, RETURN_AT, SUBJECT_AT,
+    TABLE_WORDS, WRITES_AT,
 };
 use crate::text::TEXT_LIMIT;
 use std::collections::{HashMap, HashSet};
@@ -56,7 +56,8 @@ fn takes_into(text: &[u8], words: &mut [u16], filled: &mut impl Lines) -> bool {
         filled,
         domains: HashMap::new(),
         objects: HashSet::with_capacity(MEMBERS),
-        functions: HashMap::with_capacity(MEMBERS),
+        functions: 0,
+        elements: HashMap::with_capacity(MEMBERS + DOMAINS),
         principals: HashSet::with_capacity(ENTRIES),
         descriptors: 0,
     };
@@ -119,7 +120,11 @@ struct Pass<'t, 'w, L> {
     /// The domains of both maps, whose names must differ.
     domains: HashMap<&'t [u8], (Map, u16)>,
     objects: HashSet<&'t [u8]>,
-    functions: HashMap<&'t [u8], u16>,
+    /// How many functions there are.
+    functions: usize,
+    /// The word of each function and each subject domain in a pattern. No name
+    /// is both: functions have a `|`.
+    elements: HashMap<&'t [u8], u16>,
     principals: HashSet<Principal>,
     descriptors: usize,
 }
@@ -130,7 +135,7 @@ impl<'t, L: Lines> Pass<'t, '_, L> {
         let object_domains = self.map(b"object_map:", Map::Objects)?;
         let subject_domains = self.map(b"subject_map:", Map::Subjects)?;
         let entries = self.privileges()?;
-        let (objects, functions) = (self.objects.len(), self.functions.len());
+        let (objects, functions) = (self.objects.len(), self.functions);
         let counts = [object_domains, subject_domains, objects, functions, entries];
         self.words[0] = MARK;
         for (place, count) in counts.into_iter().enumerate() {
@@ -254,6 +259,9 @@ impl<'t, L: Lines> Pass<'t, '_, L> {
                 if !is_new || count == DOMAINS {
                     return None;
                 }
+                if map == Map::Subjects {
+                    self.elements.insert(name, DOMAIN_WORDS_AT + count as u16);
+                }
                 self.members(map, count as u16)?;
                 count += 1;
             }
@@ -286,13 +294,14 @@ impl<'t, L: Lines> Pass<'t, '_, L> {
     }
 
     fn function(&mut self, name: &'t [u8], domain: u16) -> Option<()> {
-        let number = self.functions.len();
+        let number = self.functions;
         let is_new = scalars::is_subject_identifier(name)
-            && self.functions.insert(name, number as u16).is_none();
+            && self.elements.insert(name, number as u16 + 1).is_none();
         if !is_new || number == MEMBERS {
             return None;
         }
         self.words[FUNCTIONS_AT + number] = domain;
+        self.functions += 1;
         Some(())
     }
 
@@ -461,7 +470,7 @@ impl<'t, L: Lines> Pass<'t, '_, L> {
             }
             pass.words[at + PATTERN_AT + count] = match name {
                 b"all" => 0,
-                _ => pass.functions.get(name)? + 1,
+                _ => *pass.elements.get(name)?,
             };
             count += 1;
             Some(())

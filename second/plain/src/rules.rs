@@ -245,7 +245,12 @@ impl<'t> Numbers<'t> {
         if name == b"all" {
             return Element::All;
         }
-        let number = self.functions.get(name).copied();
-        Element::Function(self.found(number, line))
+        // "Identifiers have a `|` and names don't."
+        if name.contains(&b'|') {
+            let number = self.functions.get(name).copied();
+            return Element::Function(self.found(number, line));
+        }
+        let number = self.subject_domains.get(name).copied();
+        Element::Domain(self.found(number, line))
     }
 }

@@ -66,9 +66,10 @@ pub fn is_subject_identifier(bytes: &[u8]) -> bool {
         && parts(bytes).is_some_and(|[unit, name]| !unit.is_empty() && !name.is_empty())
 }
 
-/// An element of a `call_context`: "function identifiers or `all`".
+/// An element of a `call_context`: `all`, a function's identifier or a subject
+/// domain's name. "Identifiers have a `|` and names don't."
 pub fn is_element(bytes: &[u8]) -> bool {
-    bytes == b"all" || is_subject_identifier(bytes)
+    is_plain_name(bytes) || is_subject_identifier(bytes)
 }
 
 /// "A line is 1 to 999999, no leading zero."

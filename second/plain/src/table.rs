@@ -20,6 +20,10 @@ pub const DESCRIPTOR_WORDS: usize = 32;
 pub const UNUSED_AT: usize = 15_904;
 
 pub const PATTERN_AT: usize = 4;
+
+/// The word of subject domain 0 in a pattern: those of functions end before it.
+pub const DOMAIN_WORDS_AT: u16 = 1_025;
+
 pub(crate) const SUBJECT_AT: usize = 20;
 pub(crate) const READS_AT: usize = 21;
 pub(crate) const WRITES_AT: usize = 22;
@@ -105,6 +109,7 @@ fn put_context(block: &mut [u16], context: &Context) {
         block[PATTERN_AT + place] = match element {
             Element::All => 0,
             Element::Function(function) => function + 1,
+            Element::Domain(domain) => DOMAIN_WORDS_AT + domain,
         };
     }
 }
@@ -201,7 +206,8 @@ fn get_context(block: &[u16]) -> Option<Context> {
     };
     let element = |&word: &u16| match word {
         0 => Element::All,
-        _ => Element::Function(word - 1),
+        1..DOMAIN_WORDS_AT => Element::Function(word - 1),
+        DOMAIN_WORDS_AT.. => Element::Domain(word - DOMAIN_WORDS_AT),
     };
     let pattern = block[PATTERN_AT..][..length].iter().map(element).collect();
     Some(Context { pattern, uid, gid })

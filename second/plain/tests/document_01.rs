@@ -389,8 +389,12 @@ fn any_list_is_searched() {
 fn slips_to_expect() {
     let all = Element::All;
     let f = Element::Function;
-    assert!(matches(&[f(0), all, f(1)], &[0, 1]), "`all` needs no frame");
-    assert!(matches(&[all, all], &[]) && !matches(&[f(0)], &[]));
+    let is_match = |pattern: &[Element], stack: &[u16]| matches(&[0; 2], pattern, stack);
+    assert!(
+        is_match(&[f(0), all, f(1)], &[0, 1]),
+        "`all` needs no frame"
+    );
+    assert!(is_match(&[all, all], &[]) && !is_match(&[f(0)], &[]));
     // An omitted `can_write` is all, a bare one none.
     let omitted = EXAMPLE.replace("  can_write:\n", "");
     let write = |text: &str| judge(&table_of(text), 2, 0, &event(&[1], 0));

@@ -1,5 +1,5 @@
 -- 8 refuses where it names a line; else the rules that are left answer.
-use Rattle.file_read.proofs.Asked.{unknown-fits}
+use Rattle.file_read.proofs.Asked.{unknown-fits, functions-few}
 use Rattle.file_read.proofs.Ruling.{unknown-answers, unknown-leaves, known-answers, known-leaves}
 use borrow.Author.Needs.{needs}
 use Rattle.file_read.proofs.read_named.Statement.{statement}
@@ -8,7 +8,7 @@ use Rattle.file_read.proofs.read_named.Tie as tie
 unknown-line-requires : tie.Need-unknown-line-requires
 unknown-line-requires c κs =
     let given = c .before .before .before .before .before .before .pre .0 in
-    (given .sound .room, (given .of-subjects .index, ((given .of-objects .counted, given .of-functions .counted, given .of-functions .few), given .worded)))
+    (given .sound .room, (given .of-subjects .index, ((given .of-objects .counted, functions-few _ _ (given .of-functions)), given .worded)))
 
 refused-requires : tie.Need-refused-requires
 refused-requires c κs = search (needs, unknown-fits, c .before .before .before .before .before .before .before .before .pre .0 .readable)

@@ -1,6 +1,6 @@
 -- By what its names are looked up in.
 use Rattle.file_words.proofs.OfField.{its-spacing, subjects-room, subjects-count, subjects-written, objects-room, objects-count, objects-written}
-use Rattle.file_words.proofs.OfField.{functions-room, functions-count, functions-written, of-subject, of-nothing, none-counted, none-written}
+use Rattle.file_words.proofs.OfField.{elements-room, elements-count, elements-written, of-subject, of-nothing, none-counted, none-written}
 use borrow.Author.Needs.{needs}
 use Rattle.file_words.proofs.field_words.Statement.{statement}
 use Rattle.file_words.proofs.field_words.Tie as tie
@@ -20,20 +20,20 @@ sought-at-requires c κs = search needs
 enum-told : tie.Need-enum-told
 enum-told c = search needs
 
-write-words-requires : tie.Need-write-words-requires
-write-words-requires c κs = (search needs, (search (needs, its-spacing), search (needs, subjects-room)))
+domain-words-requires : tie.Need-domain-words-requires
+domain-words-requires c κs = (search needs, (search (needs, its-spacing), search (needs, subjects-room)))
 
 enum-told-2 : tie.Need-enum-told-2
 enum-told-2 c = search needs
 
-write-words-requires-2 : tie.Need-write-words-requires-2
-write-words-requires-2 c κs = (search needs, (search (needs, its-spacing), search (needs, objects-room)))
+domain-words-requires-2 : tie.Need-domain-words-requires-2
+domain-words-requires-2 c κs = (search needs, (search (needs, its-spacing), search (needs, objects-room)))
 
 enum-told-3 : tie.Need-enum-told-3
 enum-told-3 c = search needs
 
-write-words-requires-3 : tie.Need-write-words-requires-3
-write-words-requires-3 c κs = (search needs, (search (needs, its-spacing), search (needs, functions-room)))
+write-words-requires : tie.Need-write-words-requires
+write-words-requires c κs = (search needs, (search needs, (search (needs, its-spacing), search (needs, elements-room))))
 
 enum-told-4 : tie.Need-enum-told-4
 enum-told-4 c = search needs
@@ -57,7 +57,7 @@ same-length-3 : tie.Need-same-length-3
 same-length-3 c = search needs
 
 returns-3 : tie.Need-returns-3
-returns-3 c = (search (needs, functions-count), search (needs, functions-written))
+returns-3 c = (search (needs, elements-count), search (needs, elements-written))
 
 returns-4 : tie.Need-returns-4
 returns-4 c = search (needs, none-counted, none-written, of-subject)
@@ -74,11 +74,11 @@ field-words-spec =
     place-of-requires
     sought-at-requires
     enum-told
-    write-words-requires
+    domain-words-requires
     enum-told-2
-    write-words-requires-2
+    domain-words-requires-2
     enum-told-3
-    write-words-requires-3
+    write-words-requires
     enum-told-4
     enum-told-5
     same-length

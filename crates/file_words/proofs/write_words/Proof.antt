@@ -16,11 +16,13 @@ use Rattle.file_words.proofs.write_words.Statement.{statement}
 use Rattle.file_words.proofs.write_words.Tie as tie
 
 abbrev Inv-loop : tie.InvT-loop
-Inv-loop t ix n pattern s out₀ m w₀ at₀ out w at = SpacedFrom s at × (length out ≡ length out₀) × (w + length (elementsLeft s at) ≡ length (elementsIn s)) ×
-    (sets out w (map (wordBy pattern (numbersIn t ix n)) (elementsLeft s at)) ≡ sets out₀ 0 (map (wordBy pattern (numbersIn t ix n)) (elementsIn s)))
+Inv-loop t ix n subjects-ix subjects pattern s out₀ m w₀ at₀ out w at =
+    SpacedFrom s at × (length out ≡ length out₀) × (w + length (elementsLeft s at) ≡ length (elementsIn s))
+    × (sets out w (map (wordBy pattern (numbersIn t ix n) n (numbersIn t subjects-ix subjects)) (elementsLeft s at))
+    ≡ sets out₀ 0 (map (wordBy pattern (numbersIn t ix n) n (numbersIn t subjects-ix subjects)) (elementsIn s)))
 
 abbrev μ-loop : tie.MeasureT-loop
-μ-loop t ix n pattern s out₀ m w₀ at₀ out w at = length s + 3 - at
+μ-loop t ix n subjects-ix subjects pattern s out₀ m w₀ at₀ out w at = length s + 3 - at
 
 shared-slice-read-m : tie.Need-shared-slice-read-m Inv-loop μ-loop
 shared-slice-read-m c = search needs
@@ -46,14 +48,14 @@ returns c = search (needs, all-counted, all-written)
 enum-known-end : tie.Need-enum-known-end Inv-loop μ-loop
 enum-known-end c = search needs
 
-sub-word-of : tie.Need-sub-word-of Inv-loop μ-loop
-sub-word-of c = search (needs, its-start)
+sub-name : tie.Need-sub-name Inv-loop μ-loop
+sub-name c = search (needs, its-start)
 
-part-word-of-start : tie.Need-part-word-of-start Inv-loop μ-loop
-part-word-of-start c = search (needs, its-start)
+part-name-start : tie.Need-part-name-start Inv-loop μ-loop
+part-name-start c = search (needs, its-start)
 
-part-word-of-end : tie.Need-part-word-of-end Inv-loop μ-loop
-part-word-of-end c = search (needs, its-end)
+part-name-end : tie.Need-part-name-end Inv-loop μ-loop
+part-name-end c = search (needs, its-end)
 
 word-of-requires : tie.Need-word-of-requires Inv-loop μ-loop
 word-of-requires c κs = search (needs, its-hash)
@@ -87,9 +89,9 @@ write-words-spec =
     same-length
     returns
     enum-known-end
-    sub-word-of
-    part-word-of-start
-    part-word-of-end
+    sub-name
+    part-name-start
+    part-name-end
     word-of-requires
     mul-out
     slice-write-out

@@ -40,6 +40,9 @@ sort-fits-requires-2 c κs = search needs
 returns-3 : tie.Need-returns-3
 returns-3 c = search (needs, other-gid)
 
+functions-requires : tie.Need-functions-requires
+functions-requires c κs = search needs
+
 pattern-at-requires : tie.Need-pattern-at-requires
 pattern-at-requires c κs = search needs
 
@@ -65,6 +68,7 @@ entry-matches-spec =
     word-requires-3
     sort-fits-requires-2
     returns-3
+    functions-requires
     pattern-at-requires
     matches-stack-requires
     returns-4)

@@ -28,6 +28,9 @@ allocated-sort-fits-requires-2 c κs = search needs
 returns-2 : tie.Need-returns-2
 returns-2 c = search (needs, allocated-gid)
 
+functions-requires : tie.Need-functions-requires
+functions-requires c κs = search needs
+
 pattern-at-requires : tie.Need-pattern-at-requires
 pattern-at-requires c κs = search needs
 
@@ -49,6 +52,7 @@ fits-allocated-spec =
     word-requires-2
     allocated-sort-fits-requires-2
     returns-2
+    functions-requires
     pattern-at-requires
     matches-stack-requires
     returns-3)

@@ -1,7 +1,7 @@
 -- The loop: what is left of the descriptors answers as all of them do.
 use Rattle.judge_match.specs.Moments.{binding, allocationOf}
 use Rattle.paper.specs.Match.{descriptorGrants, someDescriptorGrants}
-use Rattle.paper.specs.Table.{descriptorIn}
+use Rattle.paper.specs.Table.{descriptorIn, policyIn}
 use mathlib.Core.Path.{_≡_}
 use Prim.Native.Nat.{_≤_, _-_}
 use Rattle.judge_match.proofs.Laws.{someFrom, someOf, some-start, some-found, some-later, some-none}
@@ -11,7 +11,7 @@ use Rattle.judge_match.proofs.some_descriptor_grants.Tie as tie
 
 abbrev Inv-loop : tie.InvT-loop
 Inv-loop t first n event allocation i₀ i =
-    let test = descriptorGrants (event .target) (binding event) (allocationOf allocation event) in
+    let test = descriptorGrants (policyIn t) (event .target) (binding event) (allocationOf allocation event) in
     (i ≤ n) × (someFrom test (descriptorIn t) first n i ≡ someOf test (descriptorIn t) first n)
 
 abbrev μ-loop : tie.MeasureT-loop

@@ -14,24 +14,25 @@ use Rattle.judge_pattern.proofs.up_to_all.Reads as up-to-all-reads
 use Rattle.judge_pattern.proofs.+walk.{statement}
 use Rattle.judge_pattern.proofs.+walk.Tie.{close}
 
-abbrev μ-walk : Measures 2 walk-kinds.ps ℕ
-μ-walk κs a = (length (a .0 .now) - a .1 .0) + (length (a .1 .1 .0 .now) - a .1 .1 .1 .0)
+abbrev μ-walk : Measures 3 walk-kinds.ps ℕ
+μ-walk κs a = (length (a .1 .0 .now) - a .1 .1 .0) + (length (a .1 .1 .1 .0 .now) - a .1 .1 .1 .1 .0)
 
-abbrev walk-at : ℕ → In 2 walk-kinds.ps
-walk-at t = and 2 walk-kinds.ps (is 2 walk-kinds.ps μ-walk t) walk.Pre
+abbrev walk-at : ℕ → In 3 walk-kinds.ps
+walk-at t = and 3 walk-kinds.ps (is 3 walk-kinds.ps μ-walk t) walk.Pre
 
-abbrev walk-below : ℕ → In 2 walk-kinds.ps
-walk-below t = and 2 walk-kinds.ps (falls 2 walk-kinds.ps _<_ μ-walk t) walk.Pre
+abbrev walk-below : ℕ → In 3 walk-kinds.ps
+walk-below t = and 3 walk-kinds.ps (falls 3 walk-kinds.ps _<_ μ-walk t) walk.Pre
 
 -- what is known of the functions that it calls, at measure t
 abbrev claims : ℕ → walk-lts.Claims
 claims t = (up-to-all-reads.Asked, up-to-all-reads.Learnt, walk-below t, walk.Post)
 
 abbrev walk-Inv-loop : walk-lts.InvT-loop
-walk-Inv-loop pattern i stack j swallowed₀ swallowed = (j + swallowed ≤ length stack) × (matchesLater pattern i stack j ≡ matchesLater pattern i stack (j + swallowed))
+walk-Inv-loop functions pattern i stack j swallowed₀ swallowed =
+    (j + swallowed ≤ length stack) × (matchesLater functions pattern i stack j ≡ matchesLater functions pattern i stack (j + swallowed))
 
 abbrev walk-μ-loop : walk-lts.MeasureT-loop
-walk-μ-loop pattern i stack j swallowed₀ swallowed = length stack - (j + swallowed)
+walk-μ-loop functions pattern i stack j swallowed₀ swallowed = length stack - (j + swallowed)
 
 walk-returns : (t : ℕ) → walk-lts.Need-returns (claims t) (walk-at t) walk.Post walk-Inv-loop walk-μ-loop
 walk-returns t c = search (needs, last-all)

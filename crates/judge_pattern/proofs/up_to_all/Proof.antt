@@ -7,22 +7,22 @@ use Rattle.judge_pattern.proofs.up_to_all.Statement.{statement}
 use Rattle.judge_pattern.proofs.up_to_all.Tie as tie
 
 abbrev Inv-loop : tie.InvT-loop
-Inv-loop pattern i stack j a₀ b₀ a b = Fits pattern i stack j a b
+Inv-loop functions pattern i stack j a₀ b₀ a b = Fits functions pattern i stack j a b
 
 abbrev μ-loop : tie.MeasureT-loop
-μ-loop pattern i stack j a₀ b₀ a b = length pattern - a
+μ-loop functions pattern i stack j a₀ b₀ a b = length pattern - a
 
 loop-holds : tie.Need-loop-holds Inv-loop μ-loop
 loop-holds c = search (needs, fits-nothing)
 
-mul-element : tie.Need-mul-element Inv-loop μ-loop
-mul-element c = search needs
+mul-one : tie.Need-mul-one Inv-loop μ-loop
+mul-one c = search needs
 
-shared-slice-read-element : tie.Need-shared-slice-read-element Inv-loop μ-loop
-shared-slice-read-element c = search needs
+shared-slice-read-one : tie.Need-shared-slice-read-one Inv-loop μ-loop
+shared-slice-read-one c = search needs
 
-add-t12 : tie.Need-add-t12 Inv-loop μ-loop
-add-t12 c = search needs
+add-t13 : tie.Need-add-t13 Inv-loop μ-loop
+add-t13 c = search needs
 
 returns : tie.Need-returns Inv-loop μ-loop
 returns c = search (needs, reaches-all)
@@ -30,14 +30,14 @@ returns c = search (needs, reaches-all)
 returns-2 : tie.Need-returns-2 Inv-loop μ-loop
 returns-2 c = search (needs, frames-end)
 
-sub-if3 : tie.Need-sub-if3 Inv-loop μ-loop
-sub-if3 c = search needs
+mul-meets : tie.Need-mul-meets Inv-loop μ-loop
+mul-meets c = search needs
 
-mul-if3 : tie.Need-mul-if3 Inv-loop μ-loop
-mul-if3 c = search needs
+shared-slice-read-meets : tie.Need-shared-slice-read-meets Inv-loop μ-loop
+shared-slice-read-meets c = search needs
 
-shared-slice-read-if3 : tie.Need-shared-slice-read-if3 Inv-loop μ-loop
-shared-slice-read-if3 c = search needs
+meets-requires : tie.Need-meets-requires Inv-loop μ-loop
+meets-requires c κs = search needs
 
 returns-3 : tie.Need-returns-3 Inv-loop μ-loop
 returns-3 c = search (needs, frame-differs)
@@ -52,7 +52,12 @@ loop-less : tie.Need-loop-less Inv-loop μ-loop
 loop-less c = search needs
 
 loop-again : tie.Need-loop-again Inv-loop μ-loop
-loop-again c = search (needs, frame-fits)
+loop-again c =
+    let fits = c .before .before .before .before .before .before .before .loop .inv in
+    let below = c .before .before .before .before .before .before .loop-test .taken in
+    let single = c .before .before .before .before .if1 .left in
+    let more = c .before .before .before .if2 .left in
+    frame-fits _ _ _ _ _ _ _ fits below single more _ (c .before .meets .ensures) (c .if3 .left)
 
 returns-4 : tie.Need-returns-4 Inv-loop μ-loop
 returns-4 c = search (needs, both-end)
@@ -67,14 +72,14 @@ up-to-all-spec =
     Inv-loop
     μ-loop
     loop-holds
-    mul-element
-    shared-slice-read-element
-    add-t12
+    mul-one
+    shared-slice-read-one
+    add-t13
     returns
     returns-2
-    sub-if3
-    mul-if3
-    shared-slice-read-if3
+    mul-meets
+    shared-slice-read-meets
+    meets-requires
     returns-3
     add-a
     add-b

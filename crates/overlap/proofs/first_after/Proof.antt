@@ -10,10 +10,10 @@ use Rattle.overlap.proofs.first_after.Statement.{statement}
 use Rattle.overlap.proofs.first_after.Tie as tie
 
 abbrev Inv-loop : tie.InvT-loop
-Inv-loop t i witness₀ n j₀ witness j = (i < j) × (length witness ≡ length witness₀) × PastKept witness₀ witness × NoneBefore t i j
+Inv-loop t lows i witness₀ n j₀ witness j = (i < j) × (length witness ≡ length witness₀) × PastKept witness₀ witness × NoneBefore t i j
 
 abbrev μ-loop : tie.MeasureT-loop
-μ-loop t i witness₀ n j₀ witness j = n - j
+μ-loop t lows i witness₀ n j₀ witness j = n - j
 
 count-requires : tie.Need-count-requires Inv-loop μ-loop
 count-requires c κs = search needs

@@ -9,10 +9,10 @@ use Rattle.overlap.proofs.first_clash.Statement.{statement}
 use Rattle.overlap.proofs.first_clash.Tie as tie
 
 abbrev Inv-loop : tie.InvT-loop
-Inv-loop t witness₀ n i₀ witness i = (length witness ≡ length witness₀) × PastKept witness₀ witness × NoneBefore t i 0
+Inv-loop t lows witness₀ n i₀ witness i = (length witness ≡ length witness₀) × PastKept witness₀ witness × NoneBefore t i 0
 
 abbrev μ-loop : tie.MeasureT-loop
-μ-loop t witness₀ n i₀ witness i = n - i
+μ-loop t lows witness₀ n i₀ witness i = n - i
 
 count-requires : tie.Need-count-requires Inv-loop μ-loop
 count-requires c κs = search needs

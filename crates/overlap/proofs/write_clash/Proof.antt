@@ -1,6 +1,6 @@
 -- No stack, or the best one of the two patterns.
 use borrow.Author.Needs.{needs}
-use Rattle.overlap.proofs.Words.{parts-fit, none-written, clash-written}
+use Rattle.overlap.proofs.Words.{parts-fit, lows-of, none-written, clash-written}
 use Rattle.overlap.proofs.write_clash.Statement.{statement}
 use Rattle.overlap.proofs.write_clash.Tie as tie
 
@@ -29,7 +29,7 @@ subject-of-requires : tie.Need-subject-of-requires
 subject-of-requires c κs = search needs
 
 write-best-stack-requires : tie.Need-write-best-stack-requires
-write-best-stack-requires c κs = search (needs, parts-fit)
+write-best-stack-requires c κs = search (needs, parts-fit, lows-of)
 
 same-length-2 : tie.Need-same-length-2
 same-length-2 c = search needs

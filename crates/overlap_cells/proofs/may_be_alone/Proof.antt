@@ -1,23 +1,17 @@
--- By whether the function is listed, and where.
+-- Where one may be alone, its domain decides.
 use borrow.Author.Needs.{needs}
-use Rattle.overlap_cells.proofs.Beginnings.{lies-in, lies-elsewhere, not-listed}
+use Rattle.overlap_cells.proofs.Beginnings.{where-last, not-last}
 use Rattle.overlap_cells.proofs.may_be_alone.Statement.{statement}
 use Rattle.overlap_cells.proofs.may_be_alone.Tie as tie
 
-mul-if2 : tie.Need-mul-if2
-mul-if2 c = search needs
-
-shared-slice-read-if2 : tie.Need-shared-slice-read-if2
-shared-slice-read-if2 c = search needs
+lies-in-requires : tie.Need-lies-in-requires
+lies-in-requires c κs = search needs
 
 returns : tie.Need-returns
-returns c = search (needs, lies-in)
+returns c = search (needs, where-last)
 
 returns-2 : tie.Need-returns-2
-returns-2 c = search (needs, lies-elsewhere)
-
-returns-3 : tie.Need-returns-3
-returns-3 c = search (needs, not-listed)
+returns-2 c = search (needs, not-last)
 
 pub may-be-alone-spec : {M : Type 1} → statement M
-may-be-alone-spec = tie.close (tie.spec mul-if2 shared-slice-read-if2 returns returns-2 returns-3)
+may-be-alone-spec = tie.close (tie.spec lies-in-requires returns returns-2)

@@ -10,11 +10,11 @@ use Rattle.overlap_meeting.proofs.fill_cells.Statement.{statement}
 use Rattle.overlap_meeting.proofs.fill_cells.Tie as tie
 
 abbrev Inv-loop : tie.InvT-loop
-Inv-loop p q functions domain frames₀ bases₀ rests₀ one other lowest k₀ frames bases rests k =
+Inv-loop p q functions lows domain frames₀ bases₀ rests₀ one other lowest k₀ frames bases rests k =
     (k ≤ filled) × (length frames ≡ cells) × (length bases ≡ cells) × (length rests ≡ cells) × Filled functions domain p q frames bases rests k
 
 abbrev μ-loop : tie.MeasureT-loop
-μ-loop p q functions domain frames₀ bases₀ rests₀ one other lowest k₀ frames bases rests k = k
+μ-loop p q functions lows domain frames₀ bases₀ rests₀ one other lowest k₀ frames bases rests k = k
 
 only-all-from-requires : tie.Need-only-all-from-requires Inv-loop μ-loop
 only-all-from-requires c κs = search needs
@@ -65,7 +65,8 @@ loop-again : tie.Need-loop-again Inv-loop μ-loop
 loop-again c =
     let now = c .before .before .before .before .before .before .before .loop in
     let low = c .before .before .before .before .before .before .before .before .lowest-alone .ensures .0 (now .bases) (now .rests) in
-    (search needs, search needs, search needs, search needs, search (needs, cell-filled))
+    let asked = c .before .before .before .before .before .before .before .before .before .before .before .before .before .before .before .pre in
+    (search needs, search needs, search needs, search needs, search (needs, cell-filled, asked))
 
 returns : tie.Need-returns Inv-loop μ-loop
 returns c = search (needs, all-filled)

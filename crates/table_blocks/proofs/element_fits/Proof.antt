@@ -1,4 +1,4 @@
--- An element of the pattern is below the count, any other is zero.
+-- An element of the pattern is listed, any other is zero.
 use Rattle.table_blocks.proofs.Laws.{listed-element, unused-element}
 use borrow.Author.Needs.{needs}
 use Rattle.table_blocks.proofs.element_fits.Statement.{statement}
@@ -16,8 +16,8 @@ word-requires c κs = search needs
 count-requires : tie.Need-count-requires
 count-requires c κs = search needs
 
-word-requires-2 : tie.Need-word-requires-2
-word-requires-2 c κs = search needs
+element-listed-requires : tie.Need-element-listed-requires
+element-listed-requires c κs = search needs
 
 returns : tie.Need-returns
 returns c = search (needs, listed-element)
@@ -28,4 +28,4 @@ returns-2 c = search (needs, unused-element)
 pub element-fits-spec : {M : Type 1} → statement M
 element-fits-spec =
     tie.close
-    (tie.spec add-word add-word-2 word-requires count-requires word-requires-2 returns returns-2)
+    (tie.spec add-word add-word-2 word-requires count-requires element-listed-requires returns returns-2)

@@ -3,6 +3,7 @@
 //! The count is small by default; `CASES=100000` runs more, and `SEED` another
 //! run of cases.
 
+mod domains;
 mod line_ends;
 
 use cases::{events, limits, tables, texts, Dice};
@@ -339,16 +340,22 @@ fn tables_round_trip_and_unused_words_count() {
     show("well_formed", &mix, &["false", "true"]);
 }
 
-/// The match of document 01, word for word, for short patterns and stacks.
-fn matches_as_said(pattern: &[Element], stack: &[u16]) -> bool {
-    match pattern {
-        [] => stack.is_empty(),
-        [Element::Function(function), rest @ ..] => {
-            stack.first() == Some(function) && matches_as_said(rest, &stack[1..])
+/// The match of document 01 and request d, word for word, for short patterns
+/// and stacks.
+fn matches_as_said(functions: &[u16], pattern: &[Element], stack: &[u16]) -> bool {
+    let after = |rest, stack: &[u16]| matches_as_said(functions, rest, &stack[1..]);
+    match (pattern, stack) {
+        ([], _) => stack.is_empty(),
+        ([Element::All, rest @ ..], _) => {
+            matches_as_said(functions, rest, stack) || !stack.is_empty() && after(pattern, stack)
         }
-        [Element::All, rest @ ..] => {
-            matches_as_said(rest, stack)
-                || !stack.is_empty() && matches_as_said(pattern, &stack[1..])
+        (_, []) => false,
+        ([Element::Function(function), rest @ ..], [frame, ..]) => {
+            function == frame && after(rest, stack)
+        }
+        ([Element::Domain(domain), rest @ ..], [frame, ..]) => {
+            let is_listed = usize::from(*frame) < functions.len();
+            is_listed && functions[usize::from(*frame)] == *domain && after(rest, stack)
         }
     }
 }
@@ -356,18 +363,21 @@ fn matches_as_said(pattern: &[Element], stack: &[u16]) -> bool {
 #[test]
 fn matching_is_as_said() {
     let mut mix = Mix::new();
+    // Function 4 and those after it are unlisted; domain 3 has no functions.
+    let functions = [0, 1, 0, 2];
     each_case(1, |dice| {
         for _ in 0..5 {
-            let element = |dice: &mut Dice| match dice.below(4) {
-                0 | 1 => Element::All,
-                function => Element::Function(function as u16),
+            let element = |dice: &mut Dice| match dice.below(8) {
+                0..=3 => Element::All,
+                number @ (4 | 5) => Element::Function(number as u16 - 2),
+                _ => Element::Domain(*dice.pick(&[0, 0, 1, 2, 3])),
             };
             let pattern: Vec<Element> = (0..dice.below(6)).map(|_| element(dice)).collect();
             let stack: Vec<u16> = (0..dice.below(7))
-                .map(|_| dice.from_to(2, 4) as u16)
+                .map(|_| dice.from_to(1, 4) as u16)
                 .collect();
-            let answer = matches(&pattern, &stack);
-            assert_eq!(answer, matches_as_said(&pattern, &stack));
+            let answer = matches(&functions, &pattern, &stack);
+            assert_eq!(answer, matches_as_said(&functions, &pattern, &stack));
             note(&mut mix, answer);
         }
     });
@@ -420,23 +430,30 @@ fn outcome(verdict: Verdict, operation: u16, is_static: bool) -> String {
     }
 }
 
-/// Every stack up to a length over few functions, shortest and lowest first.
-fn stacks(functions: u16, length: usize) -> Vec<Vec<u16>> {
-    let mut all = vec![vec![]];
+/// Every stack of at most six frames over few functions and one that is
+/// unlisted, shortest and lowest first.
+fn stacks(functions: u16) -> Vec<Vec<u16>> {
+    let mut all = vec![];
     let mut layer: Vec<Vec<u16>> = vec![vec![]];
-    for _ in 0..length {
+    for _ in 0..6 {
         layer = layer
             .iter()
-            .flat_map(|stack| (0..functions).map(|f| [&stack[..], &[f]].concat()))
+            .flat_map(|stack| (0..=functions).map(|f| [&stack[..], &[f]].concat()))
             .collect();
         all.extend(layer.clone());
     }
     all
 }
 
+/// These for every number of functions up to one.
+fn stacks_of(most: u16) -> Vec<Vec<Vec<u16>>> {
+    (0..=most).map(stacks).collect()
+}
+
 #[test]
 fn clashes_are_real_and_clear_is_clear() {
     let mut mix = Mix::new();
+    let stacks = stacks_of(4);
     each_case(1, |dice| {
         let table = tables::table(dice);
         let mut witness = vec![0x5555; *dice.pick(&[0, 29, 30, 30, 30, 30, 30, 31, 31, 40])];
@@ -453,7 +470,7 @@ fn clashes_are_real_and_clear_is_clear() {
         assert_eq!(witness[30..], before[30..]);
         note(&mut mix, check_witness(&policy, answer, &witness));
         if policy.functions.len() <= 4 && dice.percent(20) {
-            assert_eq!(answer, brute(&policy, &witness), "{policy:?}");
+            assert_eq!(answer, brute(&policy, &witness, &stacks), "{policy:?}");
         }
     });
     let needed = [
@@ -496,18 +513,19 @@ fn entry_matches(policy: &Policy, entry: u8, stack: &[u16], uid: u8) -> bool {
         Uid::User => uid == 1,
         _ => true,
     };
-    top == Some(&entry.subject) && uid_fits && matches(&entry.context.pattern, stack)
+    let is_match = || matches(&policy.functions, &entry.context.pattern, stack);
+    top == Some(&entry.subject) && uid_fits && is_match()
 }
 
 /// The report by trying every stack of at most six frames; a longer answer is
 /// taken as it is.
-fn brute(policy: &Policy, witness: &[u16]) -> Overlap {
+fn brute(policy: &Policy, witness: &[u16], stacks: &[Vec<Vec<u16>>]) -> Overlap {
     let entries = policy.entries.len() as u8;
-    let stacks = stacks(policy.functions.len() as u16, 6);
+    let stacks = &stacks[policy.functions.len()];
     let answer = overlap(&encode(policy).unwrap(), &mut [0; 30]);
     for lower in 0..entries {
         for higher in lower + 1..entries {
-            if let Some((stack, uid)) = brute_pair(policy, lower, higher, &stacks) {
+            if let Some((stack, uid)) = brute_pair(policy, lower, higher, stacks) {
                 assert_eq!(witness[..stack.len()], stack[..], "not the lowest");
                 let length = stack.len() as u8;
                 return Overlap::Clash {
@@ -543,18 +561,29 @@ fn brute_pair<'s>(
         let under = |uid| both.iter().all(|&e| entry_matches(policy, e, stack, uid));
         under(0) || under(1)
     };
-    let stack = stacks[1..].iter().find(is_real)?;
+    let stack = stacks.iter().find(is_real)?;
     let is_user = |&e: &u8| policy.entries[usize::from(e)].context.uid == Uid::User;
     Some((stack, both.iter().any(is_user).into()))
 }
 
 #[test]
 fn no_table_makes_the_report_slow() {
-    // Every pair must be searched to its end: the tops are all different.
+    for named in [Element::Function, Element::Domain] {
+        let policy = slow_policy(named);
+        let start = std::time::Instant::now();
+        let answer = overlap(&encode(&policy).unwrap(), &mut [0; 30]);
+        println!("slow report: {:?}", start.elapsed());
+        assert_eq!(answer, Overlap::Clear);
+        assert!(start.elapsed().as_secs() < 10);
+    }
+}
+
+/// Every pair must be searched to its end: the tops are all different.
+fn slow_policy(named: fn(u16) -> Element) -> Policy {
     let entry = |number: u16| {
         let element = |place: u16| match place % 2 {
             0 => Element::All,
-            _ => Element::Function((number >> (place % 7)) % 3),
+            _ => named((number >> (place % 7)) % 3),
         };
         let mut pattern: Vec<Element> = (0..15).map(element).collect();
         pattern.push(Element::Function(10 + number));
@@ -571,18 +600,13 @@ fn no_table_makes_the_report_slow() {
             can_write: vec![],
         }
     };
-    let policy = Policy {
+    Policy {
         object_domains: 0,
-        subject_domains: 1,
+        subject_domains: 3,
         objects: vec![],
-        functions: vec![0; 1_024],
+        functions: [vec![0; 1_022], vec![1, 2]].concat(),
         entries: (0..128).map(entry).collect(),
-    };
-    let start = std::time::Instant::now();
-    let answer = overlap(&encode(&policy).unwrap(), &mut [0; 30]);
-    println!("slow report: {:?}", start.elapsed());
-    assert_eq!(answer, Overlap::Clear);
-    assert!(start.elapsed().as_secs() < 10);
+    }
 }
 
 /// The quick reader takes exactly the texts that the plain one takes, and

@@ -3,17 +3,25 @@
 //! itself: see `tests/stand_ins.rs`.
 #![forbid(unsafe_code)]
 
+use cases::patterns::{has_domain, with_domains_as, Whose};
 use compare::lent::{Lent, Value};
 use compare::wire::{Call, Function, CALL, LEND, SHOW, TIME, WHAT_IS_HERE};
-use second::file::Word;
+use second::file::{File, Word};
+use second::judge::judge_policy;
 use second::lookup::{self, name_in};
 use second::names::{self, Kind, FOUR};
-use second::policy::ELEMENTS;
-use second::refusal::{EMPTY, LAYOUT, LONG_FILLED, SHORT_OUTPUT, SHORT_TABLE, TWICE, UNKNOWN};
-use second::table::{ENTRIES_AT, ENTRY_WORDS, PATTERN_AT, UNUSED_AT};
+use second::policy::{first_repeat, Context, Element, Policy, DESCRIPTORS, ELEMENTS, ENTRIES};
+use second::refusal::{
+    EMPTY, LAYOUT, LONG_FILLED, NOT_WELL_FORMED, SAME_PRINCIPAL, SCALAR, SHORT_OUTPUT, SHORT_TABLE,
+    TWICE, UNKNOWN,
+};
+use second::table::{
+    DESCRIPTORS_AT, DESCRIPTOR_WORDS, DOMAIN_WORDS_AT, ENTRIES_AT, ENTRY_WORDS, PATTERN_AT,
+    UNUSED_AT,
+};
 use second::{
-    decode, filled, filler, find, first_fault, page, well_formed, Event, Map, Overlap, Refusal,
-    Verdict, TABLE_WORDS,
+    decode, encode, filled, filler, find, first_fault, page, well_formed, Event, Map, Overlap,
+    Refusal, Verdict, TABLE_WORDS,
 };
 use std::collections::BTreeMap;
 use std::io::{self, Read, Write};
@@ -21,6 +29,9 @@ use std::time::Instant;
 
 /// The first word of the domains that entry 0 may return to.
 const RETURN_SET: usize = ENTRIES_AT + 34;
+
+/// A function that no event and no policy has.
+const NOBODY: u16 = 40_000;
 
 /// What is lent, as bytes between canaries.
 type Slots = BTreeMap<u32, Vec<u8>>;
@@ -173,9 +184,36 @@ fn written<T: Value + Default>(
     answer
 }
 
+/// The place of every element of a pattern, used or not.
+fn element_places() -> impl Iterator<Item = usize> {
+    let entries = (0..ENTRIES).map(|number| ENTRIES_AT + ENTRY_WORDS * number);
+    let descriptors = (0..DESCRIPTORS).map(|number| DESCRIPTORS_AT + DESCRIPTOR_WORDS * number);
+    let blocks = entries.chain(descriptors);
+    blocks.flat_map(|block| (0..ELEMENTS).map(move |element| block + PATTERN_AT + element))
+}
+
+/// Changes the elements of a table that are domains by their words.
+fn change_domains(table: &mut [u16], change: impl Fn(u16) -> u16) {
+    for place in element_places() {
+        match table.get_mut(place) {
+            Some(word) if *word >= DOMAIN_WORDS_AT => *word = change(*word),
+            _ => {}
+        }
+    }
+}
+
 fn is_well_formed(fault: &str, table: &[u16]) -> bool {
+    let with_domains = |change: fn(u16) -> u16| {
+        let mut table = table.to_vec();
+        change_domains(&mut table, change);
+        well_formed(&table)
+    };
     match fault {
         "every table is well formed" => true,
+        "a domain may have any number" => {
+            well_formed(table) || with_domains(|word| word.min(DOMAIN_WORDS_AT))
+        }
+        "no domain is an element" => with_domains(|_| DOMAIN_WORDS_AT - 1),
         "words after the descriptors are not looked at" => {
             let mut table = table.to_vec();
             let end = table.len().min(TABLE_WORDS);
@@ -205,9 +243,16 @@ fn judged(
             _ => allocation_gid,
         },
     };
-    let verdict = match fault {
-        "all is inside one domain" => Verdict::Inside,
-        _ => second::judge(table.get(), operation as u16, target as u16, &event),
+    let (operation, target) = (operation as u16, target as u16);
+    let judge = |policy: &Policy| judge_policy(policy, operation, target, &event);
+    let verdict = match (fault, decode(table.get())) {
+        ("all is inside one domain", _) => Verdict::Inside,
+        (_, None) => Verdict::Refused(NOT_WELL_FORMED),
+        (_, Some(policy)) => match judge(&policy) {
+            // Top and target are in no pattern.
+            Verdict::Violation(number @ (1 | 2)) => Verdict::Violation(number),
+            _ => judge(&mistaken(fault, policy, event.allocation.is_empty())),
+        },
     };
     match fault {
         "a verdict is no answer" => 0,
@@ -215,7 +260,37 @@ fn judged(
     }
 }
 
+/// The policy as one would see it who takes domains in patterns otherwise.
+fn mistaken(fault: &str, mut policy: Policy, is_static: bool) -> Policy {
+    let with = |whose, other: &dyn Fn(u16) -> Element| with_domains_as(&policy, whose, other);
+    let functions = policy.functions.clone();
+    let lowest = |domain| functions.iter().position(|of| *of == domain);
+    let function = |domain| Element::Function(lowest(domain).unwrap_or(0) as u16);
+    match fault {
+        "a domain meets no frame" => with(Whose::Entry, &|_| Element::Function(NOBODY)),
+        "a domain is its first function" => with(Whose::Entry, &function),
+        "a domain without functions is function 0" => {
+            with(Whose::Entry, &|domain| match lowest(domain) {
+                Some(_) => Element::Domain(domain),
+                None => Element::Function(0),
+            })
+        }
+        "a domain meets no frame of an allocation" => {
+            with(Whose::Object, &|_| Element::Function(NOBODY))
+        }
+        "a domain fits a static object" if is_static => with(Whose::Object, &|_| Element::All),
+        "an unlisted frame lies in domain 0" => {
+            policy.functions.resize(1 << 16, 0);
+            policy
+        }
+        _ => policy,
+    }
+}
+
 fn reported(fault: &str, table: &[u16], witness: &mut [u16]) -> u64 {
+    let policy = decode(table).map(|policy| mistaken(fault, policy, false));
+    let seen = policy.as_ref().and_then(encode);
+    let table = &seen.unwrap_or(table.to_vec());
     if fault == "every table is clear" {
         if let Some(words) = witness.get_mut(..30) {
             words.fill(0);
@@ -249,9 +324,42 @@ fn reported(fault: &str, table: &[u16], witness: &mut [u16]) -> u64 {
         ) if is_all(table, *lower) && is_all(table, *higher) => {
             witness[0] = highest_beside(table, witness[0]);
         }
+        ("a witness is higher in a domain", report @ Overlap::Clash { .. }) => {
+            if let Some(policy) = &policy {
+                heighten(policy, *report, witness);
+            }
+        }
         _ => {}
     }
     report.answer().packed()
+}
+
+/// Puts the highest function of the domain wherever both entries then still
+/// match, if one of them names a domain.
+fn heighten(policy: &Policy, report: Overlap, witness: &mut [u16]) {
+    let Overlap::Clash {
+        lower,
+        higher,
+        length,
+        ..
+    } = report
+    else {
+        return;
+    };
+    let both = [lower, higher].map(|entry| &policy.entries[usize::from(entry)].context);
+    if !both.iter().any(|context| has_domain(context)) {
+        return;
+    }
+    for place in 0..usize::from(length) {
+        let mut stack = witness[..length.into()].to_vec();
+        let domain = policy.functions.get(usize::from(stack[place]));
+        let highest = policy.functions.iter().rposition(|of| Some(of) == domain);
+        stack[place] = highest.map_or(stack[place], |highest| highest as u16);
+        let is_match = |c: &&Context| second::matches(&policy.functions, &c.pattern, &stack);
+        if both.iter().all(is_match) {
+            witness[place] = stack[place];
+        }
+    }
 }
 
 /// Whether an entry's pattern is of `all` alone.
@@ -303,6 +411,25 @@ fn taken(fault: &str, text: &[u8], table: &mut [u16]) -> u64 {
         ("the last word is wrong", 0) => table[TABLE_WORDS - 1] = 1,
         ("a short table is changed", SHORT_TABLE) => table.fill(0),
         ("a refused text leaves a word", LAYOUT) => table[0] = first.unwrap_or(0),
+        ("a domain is read as a function", 0) => {
+            change_domains(table, |word| word - (DOMAIN_WORDS_AT - 1));
+        }
+        ("names in patterns are refused", 0) if has_names(table) => {
+            answer = Refusal::answer(Some(Refusal::at(SCALAR, 1)));
+        }
+        ("an unknown name in a pattern is malformed", UNKNOWN)
+            if is_pattern(text, answer.rest, |element| !element.contains('|')) =>
+        {
+            answer.value = SCALAR;
+        }
+        ("a domain of the other map is taken", UNKNOWN)
+            if is_pattern(text, answer.rest, |element| is_object_domain(text, element)) =>
+        {
+            answer = Refusal::answer(None);
+        }
+        ("principals are compared by what they meet", 0) if has_like_principals(table) => {
+            answer = Refusal::answer(Some(Refusal::at(SAME_PRINCIPAL, 1)));
+        }
         ("an unknown name is refused as a repeat", UNKNOWN) => answer.value = TWICE,
         ("a repeat is on the line before", TWICE) => answer.rest -= 1,
         ("word 16,384 is changed", _) if table.len() > TABLE_WORDS => table[TABLE_WORDS] = 0,
@@ -310,6 +437,46 @@ fn taken(fault: &str, text: &[u8], table: &mut [u16]) -> u64 {
         _ => {}
     }
     answer.packed()
+}
+
+/// Whether some pattern of a table names a domain.
+fn has_names(table: &[u16]) -> bool {
+    let words = element_places().filter_map(|place| table.get(place));
+    words.into_iter().any(|word| *word >= DOMAIN_WORDS_AT)
+}
+
+/// Whether this line of a text is a pattern with such an element.
+fn is_pattern(text: &[u8], line: u32, is_such: impl Fn(&str) -> bool) -> bool {
+    let text = String::from_utf8_lossy(text);
+    let line = text.lines().nth(line as usize - 1).unwrap_or_default();
+    let list = line.strip_prefix("      call_context: [");
+    list.is_some_and(|list| list.trim_end_matches(']').split(", ").any(is_such))
+}
+
+fn is_object_domain(text: &[u8], name: &str) -> bool {
+    let has = |file: File<'_>| {
+        let mut domains = file.object_map.iter();
+        domains.any(|domain| domain.name.bytes == name.as_bytes())
+    };
+    page::file(text).is_ok_and(has)
+}
+
+/// Whether two principals are the same once a domain with one function is taken
+/// for that function.
+fn has_like_principals(table: &[u16]) -> bool {
+    let Some(policy) = decode(table) else {
+        return false;
+    };
+    let functions = &policy.functions;
+    let alone = |domain| {
+        let own = |function: &u16| functions[usize::from(*function)] == domain;
+        let own: Vec<u16> = (0..functions.len() as u16).filter(own).collect();
+        match own[..] {
+            [function] => Element::Function(function),
+            _ => Element::Domain(domain),
+        }
+    };
+    first_repeat(&with_domains_as(&policy, Whose::Entry, alone).entries).is_some()
 }
 
 /// Whether a text is its own filled text.
@@ -326,6 +493,13 @@ fn filled_out(fault: &str, text: &[u8], output: &mut [u8]) -> u64 {
             output[..text.len()].copy_from_slice(text);
             filling = Ok(text.len());
         }
+        ("a domain in a pattern is filled as all", Ok(size)) => {
+            let other = without_domains(&output[..size]);
+            if other.len() <= room {
+                output[..other.len()].copy_from_slice(&other);
+                filling = Ok(other.len());
+            }
+        }
         ("the byte behind the filled text is cleared", Ok(size)) if size < room => output[size] = 0,
         ("a refused text is written", Err(_)) if room > 0 => output[0] = 0,
         ("a filled text is filled otherwise", Ok(_)) if is_filled(text) => output[0] = b' ',
@@ -336,6 +510,31 @@ fn filled_out(fault: &str, text: &[u8], output: &mut [u8]) -> u64 {
         _ => {}
     }
     filler::answer(filling).packed()
+}
+
+/// A text with `all` for each domain in a pattern.
+fn without_domains(text: &[u8]) -> Vec<u8> {
+    let is_pattern = |line: &&str| line.starts_with("      call_context: [");
+    let element = |element: &str| match element.contains('|') {
+        true => element.to_string(),
+        false => "all".to_string(),
+    };
+    let line = |line: &str| {
+        let list = Some(line)
+            .filter(is_pattern)
+            .and_then(|line| line.split_once('['));
+        let Some((before, list)) = list else {
+            return format!("{line}\n");
+        };
+        let elements: Vec<String> = list
+            .trim_end_matches(']')
+            .split(", ")
+            .map(element)
+            .collect();
+        format!("{before}[{}]\n", elements.join(", "))
+    };
+    let text = String::from_utf8_lossy(text);
+    text.lines().map(line).collect::<String>().into_bytes()
 }
 
 /// Looks a name up and leaves the text in its slot.

@@ -1,5 +1,5 @@
 -- By what the place asks for.
-use Rattle.file_names.proofs.Scanned.{of-subjects, of-objects, of-subject, of-functions, of-nothing}
+use Rattle.file_names.proofs.Scanned.{of-subjects, of-objects, of-subject, of-elements, of-nothing}
 use borrow.Author.Needs.{needs}
 use Rattle.file_names.proofs.lists.list_distinct.Statement.{statement}
 use Rattle.file_names.proofs.lists.list_distinct.Tie as tie
@@ -47,7 +47,7 @@ returns-3 : tie.Need-returns-3
 returns-3 c = search (needs, of-subject)
 
 returns-4 : tie.Need-returns-4
-returns-4 c = search (needs, of-functions)
+returns-4 c = search (needs, of-elements)
 
 returns-5 : tie.Need-returns-5
 returns-5 c = search (needs, of-nothing)

@@ -1,5 +1,5 @@
 -- By what the place asks for.
-use Rattle.file_names.proofs.Looked.{asks-subject, asks-subjects, asks-objects, asks-functions, asks-nothing}
+use Rattle.file_names.proofs.Looked.{asks-subject, asks-subjects, asks-objects, asks-elements, asks-nothing}
 use borrow.Author.Needs.{needs}
 use Rattle.file_names.proofs.unknown.is_unknown.Statement.{statement}
 use Rattle.file_names.proofs.unknown.is_unknown.Tie as tie
@@ -43,6 +43,9 @@ enum-told-4 c = search needs
 words-of-requires-3 : tie.Need-words-of-requires-3
 words-of-requires-3 c κs = search needs
 
+cast-all-below : tie.Need-cast-all-below
+cast-all-below c = search needs
+
 add-all-below : tie.Need-add-all-below
 add-all-below c = search needs
 
@@ -62,7 +65,7 @@ returns-3 : tie.Need-returns-3
 returns-3 c = search (needs, asks-objects)
 
 returns-4 : tie.Need-returns-4
-returns-4 c = search (needs, asks-functions)
+returns-4 c = search (needs, asks-elements)
 
 returns-5 : tie.Need-returns-5
 returns-5 c = search (needs, asks-nothing)
@@ -84,6 +87,7 @@ is-unknown-spec =
     all-below-requires-2
     enum-told-4
     words-of-requires-3
+    cast-all-below
     add-all-below
     all-below-requires-3
     enum-told-5

@@ -10,10 +10,10 @@ use Rattle.file_names.proofs.unknown.unknown_line.Statement.{statement}
 use Rattle.file_names.proofs.unknown.unknown_line.Tie as tie
 
 abbrev Inv-loop : tie.InvT-loop
-Inv-loop t list n objects subjects-ix subjects functions words starts i₀ i = firstWith (namesUnknown (between t list 0 n)) (between t list i n) ≡ unknownName (between t list 0 n)
+Inv-loop t list n objects subjects-ix subjects words starts i₀ i = firstWith (namesUnknown (between t list 0 n)) (between t list i n) ≡ unknownName (between t list 0 n)
 
 abbrev μ-loop : tie.MeasureT-loop
-μ-loop t list n objects subjects-ix subjects functions words starts i₀ i = n - i
+μ-loop t list n objects subjects-ix subjects words starts i₀ i = n - i
 
 loop-holds : tie.Need-loop-holds Inv-loop μ-loop
 loop-holds c = search (needs, unknown-first)

@@ -1,5 +1,5 @@
 -- One test after the other, as the definition has them.
-use Rattle.file_words.proofs.Looking.{seeks-subject, seeks-subjects, seeks-objects, seeks-functions, seeks-nothing}
+use Rattle.file_words.proofs.Looking.{seeks-subject, seeks-subjects, seeks-objects, seeks-elements, seeks-nothing}
 use borrow.Author.Needs.{needs}
 use Rattle.file_words.proofs.places.sought_at.Statement.{statement}
 use Rattle.file_words.proofs.places.sought_at.Tie as tie
@@ -23,7 +23,7 @@ is-call-context-requires : tie.Need-is-call-context-requires
 is-call-context-requires c κs = search needs
 
 returns-4 : tie.Need-returns-4
-returns-4 c = search (needs, seeks-functions)
+returns-4 c = search (needs, seeks-elements)
 
 returns-5 : tie.Need-returns-5
 returns-5 c = search (needs, seeks-nothing)

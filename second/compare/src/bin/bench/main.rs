@@ -1,10 +1,11 @@
 //! `bench`: how long the plain program and the proved one take for a text, a
 //! report and an event.
 //!
-//! Both read and fill the same large texts. Both judge the same events under the same
-//! table, which has 128 entries and 256 descriptors, and report on a table of
-//! 128 full patterns of one subject with no clash. The proved one is timed
-//! inside the bridge, so that no pipe is measured.
+//! Both read and fill the same large texts. Both judge the same events under the
+//! same table, which has 128 entries and 256 descriptors, and report on a table
+//! of 128 full patterns of one subject with no clash; then on tables whose
+//! patterns name domains too. The proved one is timed inside the bridge, so that
+//! no pipe is measured.
 #![forbid(unsafe_code)]
 
 mod texts;
@@ -27,6 +28,10 @@ const TESTED_SHARE: usize = 100;
 
 /// The slot of the table that events are judged under.
 const TABLE: u32 = 0;
+
+/// What the rows of some tables begin with, and in how many of a hundred
+/// elements that are not `all` these tables name a domain.
+const TABLES: [(&str, usize); 2] = [("", 0), ("domains: ", 50)];
 
 struct Asked {
     events: usize,
@@ -80,19 +85,21 @@ fn bench(asked: &Asked) -> Result<(), String> {
     say_how(&bench);
     texts::rows(&mut bench)?;
     let mut dice = Dice::new(asked.seed);
-    let words = encode(&full::policy(&mut dice)).ok_or("no table")?;
-    let mut lent = Requests::default();
-    lent.lend(TABLE, &words);
-    exchange(&mut bench.bridge, lent)?;
-    table_test(&mut bench, &words)?;
-    report(&mut bench)?;
-    for (stacks, least, most) in [("1 to 8 frames", 1, 8), ("64 frames", 64, 64)] {
-        let one = |_| {
-            let frames = dice.from_to(least, most);
-            full::event(&mut dice, frames)
-        };
-        let events: Vec<OwnEvent> = (0..asked.events).map(one).collect();
-        judging(&mut bench, &words, &events, stacks)?;
+    for (begin, domains) in TABLES {
+        let words = encode(&full::policy(&mut dice, domains)).ok_or("no table")?;
+        let mut lent = Requests::default();
+        lent.lend(TABLE, &words);
+        exchange(&mut bench.bridge, lent)?;
+        table_test(&mut bench, &words, begin)?;
+        report(&mut bench, domains > 0, begin)?;
+        for (stacks, least, most) in [("1 to 8 frames", 1, 8), ("64 frames", 64, 64)] {
+            let one = |_| {
+                let frames = dice.from_to(least, most);
+                full::event(&mut dice, frames)
+            };
+            let events: Vec<OwnEvent> = (0..asked.events).map(one).collect();
+            judging(&mut bench, &words, &events, &format!("{begin}{stacks}"))?;
+        }
     }
     Ok(())
 }
@@ -113,9 +120,9 @@ fn say_how(bench: &Bench) {
     println!("microseconds for one call, the smallest of {LEAST_RUNS} to {most} runs");
 }
 
-fn table_test(bench: &mut Bench, words: &[u16]) -> Result<(), String> {
+fn table_test(bench: &mut Bench, words: &[u16], begin: &str) -> Result<(), String> {
     let calls = Calls {
-        name: "the table test".to_string(),
+        name: format!("{begin}the table test"),
         function: Function::WellFormed,
         all: &[Call::new(Function::WellFormed, &[TABLE], &[])],
     };
@@ -125,14 +132,14 @@ fn table_test(bench: &mut Bench, words: &[u16]) -> Result<(), String> {
 }
 
 /// The overlap report of a table without a clash.
-fn report(bench: &mut Bench) -> Result<(), String> {
-    let words = encode(&full::clear_policy()).ok_or("no table")?;
+fn report(bench: &mut Bench, has_domains: bool, begin: &str) -> Result<(), String> {
+    let words = encode(&full::clear_policy(has_domains)).ok_or("no table")?;
     let mut lent = Requests::default();
     lent.lend(1, &words);
     lent.lend(2, &[0u16; WITNESS_WORDS]);
     exchange(&mut bench.bridge, lent)?;
     let calls = Calls {
-        name: "the report, no clash".to_string(),
+        name: format!("{begin}the report, no clash"),
         function: Function::Overlap,
         all: &[Call::new(Function::Overlap, &[1, 2], &[])],
     };
