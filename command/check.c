@@ -59,7 +59,7 @@ static void print_clash(const struct policy *policy, const char *file, uint64_t 
         const struct thing *frame = thing_numbered(policy, DOVETENON_KIND_FUNCTION, witness[i]);
         printf("%s%.*s", i > 0 ? " > " : "", (int)frame->length, frame->name);
     }
-    printf(", uid %lu, gid 0\n", (unsigned long)dovetenon_report_uid(report));
+    printf(", uid %lu, gid 0, ns 0\n", (unsigned long)dovetenon_report_uid(report));
 }
 
 static void json_claimant(const struct policy *policy, uint8_t number)
@@ -86,6 +86,7 @@ static void json_clash(const struct policy *policy, const char *file, uint64_t r
     json_array_end();
     json_number("uid", dovetenon_report_uid(report));
     json_number("gid", 0);
+    json_number("namespace", 0);
     json_end();
     json_line();
 }

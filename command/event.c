@@ -71,7 +71,7 @@ static bool number(struct word word, uint32_t most, uint32_t *number)
 static bool is_no_name(struct word word)
 {
     return word.length == 0 || is(word, ">") || is(word, "from") || is(word, "at") || is(word, "uid") || is(word, "gid")
-        || is(word, "allocated");
+        || is(word, "ns") || is(word, "allocated");
 }
 
 /* The number of a function or object, by its name or as it stands. A name that is not listed has no number below the count. */
@@ -130,7 +130,7 @@ static const char *read_stack(const struct policy *policy, struct rest *rest, st
     return NULL;
 }
 
-/* A stack, and perhaps uid and gid. */
+/* A stack, and perhaps uid, gid and namespace. */
 static const char *read_moment(const struct policy *policy, struct rest *rest, struct moment *moment)
 {
     const char *fault = read_stack(policy, rest, moment);
@@ -140,6 +140,8 @@ static const char *read_moment(const struct policy *policy, struct rest *rest, s
         return "a number up to 4,294,967,295 is due behind uid";
     if (took(rest, "gid") && !number(take(rest), UINT32_MAX, &moment->gid))
         return "a number up to 4,294,967,295 is due behind gid";
+    if (took(rest, "ns") && !number(take(rest), UINT32_MAX, &moment->ns))
+        return "a number up to 4,294,967,295 is due behind ns";
     return NULL;
 }
 
@@ -175,6 +177,6 @@ const char *read_event(const struct policy *policy, const char *line, size_t len
     if (!fault && took(&rest, "allocated"))
         fault = took(&rest, "at") ? read_moment(policy, &rest, &event->allocation) : "at is due behind allocated";
     if (!fault && peek(&rest).length > 0)
-        fault = "the event has ended, and more follows: uid goes before gid, and allocated at after both";
+        fault = "the event has ended, and more follows: uid goes before gid, gid before ns, and allocated at after them";
     return fault;
 }

@@ -10,7 +10,7 @@ enum { FRAMES_KEPT = DOVETENON_FRAMES + 1 };
 struct moment {
     uint16_t stack[FRAMES_KEPT];
     size_t frames;
-    uint32_t uid, gid;
+    uint32_t uid, gid, ns;
 };
 
 struct event {

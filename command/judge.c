@@ -47,8 +47,8 @@ static uint32_t verdict_on(const struct policy *policy, const struct event *even
 {
     const struct moment *running = &event->running, *allocation = &event->allocation;
     return dovetenon_judge_known(policy->table, DOVETENON_TABLE_WORDS, event->operation, event->target,
-                                 running->stack, running->frames, running->uid, running->gid,
-                                 allocation->stack, allocation->frames, allocation->uid, allocation->gid);
+                                 running->stack, running->frames, running->uid, running->gid, running->ns,
+                                 allocation->stack, allocation->frames, allocation->uid, allocation->gid, allocation->ns);
 }
 
 /* Judges every event, while someone takes the verdicts. Answers what ended it before the end, or null. */

@@ -12,7 +12,7 @@ enum {
 };
 
 /* Of a context, the front of an entry and of a descriptor. */
-enum { CONTEXT_ELEMENTS = 0, CONTEXT_UID = 1, CONTEXT_GID = 2, CONTEXT_PATTERN = 4 };
+enum { CONTEXT_ELEMENTS = 0, CONTEXT_UID = 1, CONTEXT_GID = 2, CONTEXT_NAMESPACE = 3, CONTEXT_PATTERN = 4 };
 
 /* Of an element of a pattern: 0 is `all`, n + 1 function n, and from here up are the subject domains. */
 enum { FIRST_DOMAIN = 1025 };

@@ -66,6 +66,7 @@ static void print_context(const uint16_t *context)
         print_pattern_element(context[CONTEXT_PATTERN + i]);
     }
     printf("]\n      uid: %s\n      gid: %s\n", sorts[context[CONTEXT_UID]], sorts[context[CONTEXT_GID]]);
+    printf("      namespace: %s\n", sorts[context[CONTEXT_NAMESPACE]]);
 }
 
 /* So many descriptors, from this one on. */

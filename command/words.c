@@ -13,7 +13,7 @@ static const struct words refusals[] = {
     {4, "layout: a line that is not as the format asks, or not the one due",
      "another key is due there, it stands at another column, its spaces are wrong, its value is of another shape, or LF is missing. "
      "Compare it with the table of keys."},
-    {5, "a name, variable, uid, gid or identifier is malformed", "See \"Names, numbers, identifiers\" in `docs/FORMAT.md`."},
+    {5, "a name, variable, uid, gid, namespace or identifier is malformed", "See \"Names, numbers, identifiers\" in `docs/FORMAT.md`."},
     {6, "a count passes its limit", "Split the policy, join domains, or write fewer items."},
     {7, "a name or identifier stands twice", "Rename one of the two, or take it out. Domain names differ over both maps."},
     {8, "a name that its map lacks", "List the domain or function, or mend the spelling."},
@@ -22,7 +22,7 @@ static const struct words refusals[] = {
      "A variable in an `object_context` must be the very one that `execution_context` of the same entry has at the same key. "
      "Bind it there, or write `all`."},
     {11, "two entries with one principal",
-     "Join the two entries into one, or tell them apart by subject, `call_context`, uid or gid. "
+     "Join the two entries into one, or tell them apart by subject, `call_context`, uid, gid or namespace. "
      "Names of variables do not tell entries apart."},
     {20, "the table is not well formed", "Read the file again: what the reader writes is well formed."},
     {21, "the stack has no frame or more than 64", "One of more than 64 frames cannot be judged; treat it as not allowed."},
@@ -36,7 +36,7 @@ static const struct words refusals[] = {
 static const struct words violations[] = {
     {1, "the running function is not listed", "list it in a subject domain, or find out why it runs"},
     {2, "the target is not listed", "list the function or object, or find out why it is reached"},
-    {3, "no entry matches: none has this subject, stack, uid and gid", "write an entry for that moment, or find out how it came about"},
+    {3, "no entry matches: none has this subject, stack, uid, gid and namespace", "write an entry for that moment, or find out how it came about"},
     {4, "entries match, but none of them grants this",
      "add the domain to an entry that matches; for an object look at its `object_context` too"},
 };

@@ -21,6 +21,10 @@
 #include <stddef.h>
 #include <stdint.h>
 
+/* The version of this interface. 2: the judge takes the namespace of the moment
+   and that of the allocation. 1: before, without them. */
+#define DOVETENON_INTERFACE 2
+
 #ifdef __cplusplus
 extern "C" {
 #endif
@@ -60,9 +64,9 @@ enum {
 
 /* Whether the table is well formed: it has at least 16,384 words, the mark,
    counts within the limits (patterns 1 to 16), every number it holds below its
-   count, no two entries with one principal, object variables bound to the uid
-   and gid of their entry's principal, and zeros in unused words and bits up to
-   16,384. Words past 16,384 are not looked at. */
+   count, no two entries with one principal, object variables bound to the uid,
+   gid and namespace of their entry's principal, and zeros in unused words and
+   bits up to 16,384. Words past 16,384 are not looked at. */
 bool dovetenon_well_formed(const uint16_t *table, size_t table_len);
 
 /* ---- The judge */
@@ -79,11 +83,12 @@ enum {
 
    The event is one of the operations, with a target (the number of an object
    for read and write, of a function for call and return), a stack of function
-   numbers (base first, running function last), uid and gid, and the
-   allocation's stack, uid and gid. An empty allocation stack means a static
-   object; its uid and gid are then not looked at. For call and return no
-   allocation data is looked at, beyond refusal 22. A number not below its count
-   means unlisted.
+   numbers (base first, running function last), uid, gid and namespace, and the
+   allocation's stack, uid, gid and namespace. An empty allocation stack means a
+   static object; its uid, gid and namespace are then not looked at. For call and
+   return no allocation data is looked at, beyond refusal 22. A number not below
+   its count means unlisted. A namespace is `ns` here, since `namespace` is a word
+   of C++.
 
    Refusals come first, 20 to 23 in that order. Then, in this order: violation
    1, violation 2, allowed inside one domain, allowed by an entry, violation 3,
@@ -91,9 +96,10 @@ enum {
 uint32_t dovetenon_judge(const uint16_t *table, size_t table_len,
                          uint16_t operation, uint16_t target,
                          const uint16_t *stack, size_t stack_len,
-                         uint32_t uid, uint32_t gid,
+                         uint32_t uid, uint32_t gid, uint32_t ns,
                          const uint16_t *allocation, size_t allocation_len,
-                         uint32_t allocation_uid, uint32_t allocation_gid);
+                         uint32_t allocation_uid, uint32_t allocation_gid,
+                         uint32_t allocation_ns);
 
 /* The same by the words as they stand, without testing first that the table is
    well formed: for callers that tested once with dovetenon_well_formed and ask
@@ -101,9 +107,10 @@ uint32_t dovetenon_judge(const uint16_t *table, size_t table_len,
 uint32_t dovetenon_judge_known(const uint16_t *table, size_t table_len,
                                uint16_t operation, uint16_t target,
                                const uint16_t *stack, size_t stack_len,
-                               uint32_t uid, uint32_t gid,
+                               uint32_t uid, uint32_t gid, uint32_t ns,
                                const uint16_t *allocation, size_t allocation_len,
-                               uint32_t allocation_uid, uint32_t allocation_gid);
+                               uint32_t allocation_uid, uint32_t allocation_gid,
+                               uint32_t allocation_ns);
 
 /* The classes of a verdict, and what its value is. */
 enum {
@@ -193,7 +200,7 @@ static inline uint8_t dovetenon_report_depth(uint64_t report)
 }
 
 /* .. and the uid at which both match: 1 if either entry says `user`, else 0.
-   The gid is 0. */
+   Gid and namespace are 0. */
 static inline uint32_t dovetenon_report_uid(uint64_t report)
 {
     return (uint32_t)(report >> 56 & 1);

@@ -47,7 +47,7 @@ static void judge(const char *event, uint16_t operation, uint16_t target, const 
 {
     printf("%s: ", event);
     uint32_t verdict = dovetenon_judge(table, DOVETENON_TABLE_WORDS, operation, target,
-                                       stack, frames, 5, 0, stack, 0, 0, 0);
+                                       stack, frames, 5, 0, 0, stack, 0, 0, 0, 0);
     switch (dovetenon_verdict_class(verdict)) {
     case DOVETENON_VERDICT_INSIDE:
         printf("allowed inside one domain\n");

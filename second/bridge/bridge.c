@@ -19,9 +19,9 @@
    and last `guard` bytes are the asker's canaries; a function gets what lies
    between. Show gives back all of it.
 
-   A call is ten numbers: the function, the slots of its three stretches and its
-   six other parameters, both in the order of the header, 0 where it has fewer.
-   A parameter of 64 bits is two of them, its low half first.
+   A call is twelve numbers: the function, the slots of its three stretches and
+   its eight other parameters, both in the order of the header, 0 where it has
+   fewer. A parameter of 64 bits is two of them, its low half first.
    Time runs through its calls so many times over, inside this process, so that
    no pipe is measured.
 
@@ -192,7 +192,7 @@ static size_t list_len(uint32_t slot) { return text_len(slot) / sizeof(uint32_t)
 /* ---- Calls */
 
 struct call {
-    uint32_t function, slot[3], number[6];
+    uint32_t function, slot[3], number[8];
 };
 
 static struct call call(void)
@@ -213,13 +213,17 @@ static uint64_t answer(const struct call *call)
     case JUDGE:
         return dovetenon_judge(words(slot[0]), words_len(slot[0]),
                                (uint16_t)number[0], (uint16_t)number[1],
-                               words(slot[1]), words_len(slot[1]), number[2], number[3],
-                               words(slot[2]), words_len(slot[2]), number[4], number[5]);
+                               words(slot[1]), words_len(slot[1]),
+                               number[2], number[3], number[4],
+                               words(slot[2]), words_len(slot[2]),
+                               number[5], number[6], number[7]);
     case JUDGE_KNOWN:
         return dovetenon_judge_known(words(slot[0]), words_len(slot[0]),
                                      (uint16_t)number[0], (uint16_t)number[1],
-                                     words(slot[1]), words_len(slot[1]), number[2], number[3],
-                                     words(slot[2]), words_len(slot[2]), number[4], number[5]);
+                                     words(slot[1]), words_len(slot[1]),
+                                     number[2], number[3], number[4],
+                                     words(slot[2]), words_len(slot[2]),
+                                     number[5], number[6], number[7]);
     case OVERLAP:
         return dovetenon_overlap(words(slot[0]), words_len(slot[0]),
                                  words(slot[1]), words_len(slot[1]));

@@ -8,7 +8,7 @@ use lib.Dec.{ltb, leb}
 use lib.ListN.{length, drop}
 use lib.Seq.{drop-at}
 use borrow.Author.Tests.{ltb-true, ltb-false, leb-true, leb-false, lt-ltb, le-ltb}
-use Rattle.paper.specs.declared.Reading.the-variants.{Accepted, Unread}
+use Rattle.paper.specs.declared.Reading.the-variants.{Unread}
 use Rattle.paper.specs.declared.Filling.the-variants.{Written, Unfilled}
 use Rattle.paper.specs.declared.Verdict.the-variants.{Unjudged}
 use Rattle.paper.specs.declared.Report.{Report}
@@ -176,8 +176,8 @@ report-answers table old new r h = go (wellFormed table) refl (ltb (length old) 
 -- a report that is not refused and not clear names a pair
 pub clash-named : (p : Policy) (old new : List ℕ) (r : Report) → Says p old new r → (r ≡ Clear → ⊥) → ClashNamed p old new r
 clash-named p old new Clear h n = absurd (n refl)
-clash-named p old new (Clash lower higher depth uid gid) h n =
-    record { lower = lower; higher = higher; depth = depth; uid = uid; gid = gid; told = refl; first = h }
+clash-named p old new (Clash lower higher depth uid gid namespace) h n =
+    record { lower = lower; higher = higher; depth = depth; uid = uid; gid = gid; namespace = namespace; told = refl; first = h }
 clash-named p old new (Unreported number) h n = absurd h
 
 -- ---- name lookup

@@ -29,7 +29,9 @@ use Rattle.laws_filled.proofs.RoundTrip.{same-reading}
 use Rattle.laws_office.specs.Office.{office, noReturn, FurtherOn}
 use Rattle.laws_office.proofs.Office.{office-answer, office-table, office-filling, office-filled, office-bytes, office-place}
 use Rattle.demands.specs.Answered.{Reads, Fills, Judges, Reports, Names, ClashNamed}
+use Rattle.demands.specs.Before.{withoutNamespace, judgedBefore}
 use Rattle.demands.proofs.Answered.{reader-answers, filler-answers, judge-answers, report-answers, lookup-answers, clash-named}
+use Rattle.demands.proofs.Before.{verdicts-before}
 
 -- ---- 1. "Any bytes, any table, any event get an answer; no caller has to have checked anything. Bad input is refused with document 01's number and
 -- line, and the lent buffers then hold exactly what it says."
@@ -99,3 +101,10 @@ module _ (withReturn : ℕ → Bool) (text : List ℕ) (plain : noReturn text �
       → (lookupAnswer (office withReturn text) map domain .bytes ≡ lookupAnswer text map domain .bytes)
       × FurtherOn (office withReturn text) (lookupAnswer (office withReturn text) map domain) (lookupAnswer text map domain)
   office-names map domain = (office-bytes withReturn text plain short map domain, office-place withReturn text plain short map domain)
+
+-- ---- "Depot as namespace." A file without the key has the verdicts that document 01 gave it before, whatever the namespaces of the event.
+
+pub without-namespace : (text table : List ℕ) (file : List Field) → fileOf text ≡ fields file → withoutNamespace file ≡ true → tableWords ≤ length table
+    → (operation target : ℕ) (m allocation : Moment)
+    → judgeAnswer (readLeaves text table) operation target m allocation ≡ judgedBefore (policyOf file) operation target m allocation
+without-namespace = verdicts-before

@@ -1,3 +1,4 @@
 pub mod Answered
 pub mod Exactly
+pub mod Before
 pub mod Demands

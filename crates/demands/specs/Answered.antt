@@ -170,8 +170,9 @@ pub record ClashNamed (p : Policy) (old new : List ℕ) (answer : Report) : Type
   pub depth : ℕ
   pub uid : ℕ
   pub gid : ℕ
-  pub told : answer ≡ Clash lower higher depth uid gid
-  pub first : FirstClash p old new lower higher depth uid gid
+  pub namespace : ℕ
+  pub told : answer ≡ Clash lower higher depth uid gid namespace
+  pub first : FirstClash p old new lower higher depth uid gid namespace
 
 -- ---- name lookup: a stretch of the text. It changes nothing
 

@@ -46,10 +46,10 @@ unrefused false short e = absurd (omega arith)
 module _ (table old new : List ℕ) where
   said-fits : wellFormed table ≡ true → (r : Report) → Says (policyIn table) old new r → ReportFits r
   said-fits good (Unreported number) h = absurd h
-  said-fits good (Clash lower higher depth uid gid) h =
+  said-fits good (Clash lower higher depth uid gid namespace) h =
       let few : length (policyIn table .entries) ≤ mostEntries = formed-proper table (formed table good) .entries in
       let one : uid ≤ 1 = rw (h .uidIs) (uid-few _ _) in
-      (omega arith, omega arith, omega arith, one, h .gidIs)
+      (omega arith, omega arith, omega arith, one, h .gidIs, h .namespaceIs)
   said-fits good Clear h = tt
 
   unless-fits : (n : ℕ) → reportRefusal table old ≡ n → (r : Report) → ReportedUnless n (policyIn table) old new r → ReportFits r

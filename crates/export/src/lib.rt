@@ -35,18 +35,25 @@ pub extern "C" fn dovetenon_judge(
     stack: &[u16],
     uid: u32,
     gid: u32,
+    namespace: u32,
     allocation: &[u16],
     allocation_uid: u32,
     allocation_gid: u32,
+    allocation_namespace: u32,
 ) -> u32
     ensures { λ r. ⌜ r ≡ verdictPacked (judgeAnswer (now (table .entry)) operation target
-        (record { stack = now (stack .entry); uid = uid; gid = gid })
-        (record { stack = now (allocation .entry); uid = «allocation_uid»; gid = «allocation_gid» })) ⌝ }
+        (record { stack = now (stack .entry); uid = uid; gid = gid; namespace = namespace })
+        (record { stack = now (allocation .entry); uid = «allocation_uid»; gid = «allocation_gid»; namespace = «allocation_namespace» })) ⌝ }
 {
-    let ids = Ids { uid: uid, gid: gid };
+    let ids = Ids {
+        uid,
+        gid,
+        namespace,
+    };
     let allocated = Ids {
         uid: allocation_uid,
         gid: allocation_gid,
+        namespace: allocation_namespace,
     };
     packed_verdict(judge::judge(table, operation, target, stack, ids, allocation, allocated))
 }
@@ -59,18 +66,25 @@ pub extern "C" fn dovetenon_judge_known(
     stack: &[u16],
     uid: u32,
     gid: u32,
+    namespace: u32,
     allocation: &[u16],
     allocation_uid: u32,
     allocation_gid: u32,
+    allocation_namespace: u32,
 ) -> u32
     ensures { λ r. ⌜ r ≡ verdictPacked (judgeEvent (policyIn (now (table .entry))) operation target
-        (record { stack = now (stack .entry); uid = uid; gid = gid })
-        (record { stack = now (allocation .entry); uid = «allocation_uid»; gid = «allocation_gid» })) ⌝ }
+        (record { stack = now (stack .entry); uid = uid; gid = gid; namespace = namespace })
+        (record { stack = now (allocation .entry); uid = «allocation_uid»; gid = «allocation_gid»; namespace = «allocation_namespace» })) ⌝ }
 {
-    let ids = Ids { uid: uid, gid: gid };
+    let ids = Ids {
+        uid,
+        gid,
+        namespace,
+    };
     let allocated = Ids {
         uid: allocation_uid,
         gid: allocation_gid,
+        namespace: allocation_namespace,
     };
     packed_verdict(judge::judge_known(table, operation, target, stack, ids, allocation, allocated))
 }

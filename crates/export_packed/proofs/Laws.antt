@@ -72,17 +72,17 @@ module _ (a : Report) (r : ℕ) where
   packs-unreported number e h = rw e h
 
   pub packs-clash :
-      (lower higher depth uid gid rest : ℕ) → a ≡ Clash lower higher depth uid gid → rest ≡ clashRest lower higher depth uid
+      (lower higher depth uid gid namespace rest : ℕ) → a ≡ Clash lower higher depth uid gid namespace → rest ≡ clashRest lower higher depth uid
       → r ≡ packed (record { class = 2; value = 0; rest = rest }) → r ≡ reportPacked a
   unfolding reportPacked
-  packs-clash lower higher depth uid gid rest e s h = rw (e, ← s) h
+  packs-clash lower higher depth uid gid namespace rest e s h = rw (e, ← s) h
 
   pub packs-clear : a ≡ Clear → r ≡ packed (record { class = 3; value = 0; rest = 0 }) → r ≡ reportPacked a
   unfolding reportPacked
   packs-clear e h = rw e h
 
 -- ---- the numbers of a clash have room
-module _ (a : Report) (lower higher depth uid gid : ℕ) (e : a ≡ Clash lower higher depth uid gid) (f : ReportFits a) where
+module _ (a : Report) (lower higher depth uid gid namespace : ℕ) (e : a ≡ Clash lower higher depth uid gid namespace) (f : ReportFits a) where
   pub lower-fits : lower < 256
   lower-fits = (rw e at f) .0
 

@@ -66,6 +66,7 @@ pub fn packed_report(report: Report) -> u64
             depth,
             uid,
             gid: _,
+            namespace: _,
         } => whole(class::CLASH, 0, clash_rest(lower, higher, depth, uid)),
         Report::Clear => whole(class::CLEAR, 0, 0),
     }

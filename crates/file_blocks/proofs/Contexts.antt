@@ -21,7 +21,7 @@ use Rattle.paper.specs.Table.{contextSize, subjectAt, padded, elementWord, cont
 use Rattle.laws.proofs.Stretches.{length-padded}
 use Rattle.file_fields.specs.Fields.{between, nextAt, valueOr}
 use Rattle.file_fields.specs.Places.{IsContext}
-use Rattle.file_fields.proofs.Places.{subject-default, uid-default, gid-default, told-value}
+use Rattle.file_fields.proofs.Places.{subject-default, uid-default, gid-default, namespace-default, told-value}
 use Rattle.file_index.specs.Buckets.{numbersIn}
 use Rattle.file_words.specs.Words.{wordsIn}
 use Rattle.file_blocks.specs.Written.{putFrom, patternIn, contextOfWords, contextIn, contextBy, contextAt, countsBy}
@@ -41,15 +41,17 @@ pub pattern-of : (words starts list : List ℕ) (place from to i most : ℕ) →
     → length (patternIn words starts (nextAt list (callContextIn place) from (to - from)) to) ≤ most → length (patternIn words starts i to) ≤ most
 pattern-of words starts list place from to i most e few = rw e few
 
-pub context-at : (t list words starts : List ℕ) (place from to : ℕ) → IsContext place → (uid gid : List ℕ) (i : ℕ)
+pub context-at : (t list words starts : List ℕ) (place from to : ℕ) → IsContext place → (uid gid namespace : List ℕ) (i : ℕ)
     → uid ≡ valueOr (bytes "all") (bytes "[]") (place + 2) (between t list from to) → gid ≡ valueOr (bytes "all") (bytes "[]") (place + 3) (between t list from to)
-    → i ≡ nextAt list (place + 1) from (to - from) → (out : List ℕ) → out ≡ contextOfWords (patternIn words starts i to) uid gid
+    → namespace ≡ valueOr (bytes "all") (bytes "[]") (place + 4) (between t list from to)
+    → i ≡ nextAt list (place + 1) from (to - from) → (out : List ℕ) → out ≡ contextOfWords (patternIn words starts i to) uid gid namespace
     → out ≡ contextIn t list words starts place from to
 unfolding contextIn
-context-at t list words starts place from to which uid gid i eu eg ei out e =
+context-at t list words starts place from to which uid gid namespace i eu eg en ei out e =
     let u : uid ≡ valueAt (place + 2) (between t list from to) = told-value (place + 2) _ (bytes "all") uid (uid-default place which) eu in
     let g : gid ≡ valueAt (place + 3) (between t list from to) = told-value (place + 3) _ (bytes "all") gid (gid-default place which) eg in
-    rw (← ei, ← u, ← g) e
+    let n : namespace ≡ valueAt (place + 4) (between t list from to) = told-value (place + 4) _ (bytes "all") namespace (namespace-default place which) en in
+    rw (← ei, ← u, ← g, ← n) e
 
 -- ---- its words
 
@@ -82,47 +84,51 @@ module _ (out : List ℕ) (z : out ≡ replicate contextSize 0) where
   pub room-for-gid : (u : ℕ) → 2 < length (set out 1 u)
   room-for-gid u = rw length-set (omega (arith, context-long))
 
-  module _ (u g : ℕ) where
-    pub room-for-count : 0 < length (set (set out 1 u) 2 g)
-    room-for-count = rw (length-set, length-set) (omega (arith, context-long))
+  pub room-for-namespace : (u g : ℕ) → 3 < length (set (set out 1 u) 2 g)
+  room-for-namespace u g = rw (length-set, length-set) (omega (arith, context-long))
+
+  module _ (u g n : ℕ) where
+    pub room-for-count : 0 < length (set (set (set out 1 u) 2 g) 3 n)
+    room-for-count = rw (length-set, length-set, length-set) (omega (arith, context-long))
 
     -- no field: one `all`, whose word is zero
-    pub all-written : (words starts : List ℕ) (i to : ℕ) (uid gid : List ℕ) → to ≤ i → u ≡ sortNumber (sortOf uid) → g ≡ sortNumber (sortOf gid)
-        → set (set (set out 1 u) 2 g) 0 1 ≡ contextOfWords (patternIn words starts i to) uid gid
+    pub all-written : (words starts : List ℕ) (i to : ℕ) (uid gid namespace : List ℕ) → to ≤ i → u ≡ sortNumber (sortOf uid) → g ≡ sortNumber (sortOf gid)
+        → n ≡ sortNumber (sortOf namespace) → set (set (set (set out 1 u) 2 g) 3 n) 0 1 ≡ contextOfWords (patternIn words starts i to) uid gid namespace
     unfolding contextOfWords patternIn padded
-    all-written words starts i to uid gid h eu eg = rw (z, eu, eg, le-ltb i to h) refl
+    all-written words starts i to uid gid namespace h eu eg en = rw (z, eu, eg, en, le-ltb i to h) refl
 
     module _ (c : ℕ) where
       -- the words before the pattern
-      abbrev three : List ℕ
-      three = set (set (set out 1 u) 2 g) 0 c
+      abbrev front : List ℕ
+      front = set (set (set (set out 1 u) 2 g) 3 n) 0 c
 
-      three-long : length three ≡ contextSize
-      three-long = rw (length-set, length-set, length-set) context-long
+      front-long : length front ≡ contextSize
+      front-long = rw (length-set, length-set, length-set, length-set) context-long
 
-      pub room-for-pattern : 4 ≤ length three
-      room-for-pattern = omega (arith, three-long)
+      pub room-for-pattern : 4 ≤ length front
+      room-for-pattern = omega (arith, front-long)
 
-      pub context-stays-long : (ws ys : List ℕ) → ys ≡ putFrom 0 ws (take (length three - 4) (drop 4 three))
-          → length (putMid 4 (length three - 4) three ys) ≡ length out
-      context-stays-long ws ys e = same-len-mid 4 (length three - 4) three ys (ap length e ∙ put-long 0 ws _) ∙ three-long ∙ sym context-long
+      pub context-stays-long : (ws ys : List ℕ) → ys ≡ putFrom 0 ws (take (length front - 4) (drop 4 front))
+          → length (putMid 4 (length front - 4) front ys) ≡ length out
+      context-stays-long ws ys e = same-len-mid 4 (length front - 4) front ys (ap length e ∙ put-long 0 ws _) ∙ front-long ∙ sym context-long
 
       module _ (words starts : List ℕ) (i to : ℕ) (h : i < to) (s : List ℕ) (e : s ≡ wordsIn words starts i)
           (few : length (patternIn words starts i to) ≤ mostElements) where
-        pub pattern-room : length s ≤ length (take (length three - 4) (drop 4 three))
+        pub pattern-room : length s ≤ length (take (length front - 4) (drop 4 front))
         pattern-room = rw z (few-words words starts i to h s e few)
 
-        pub context-written : (uid gid ys : List ℕ) → u ≡ sortNumber (sortOf uid) → g ≡ sortNumber (sortOf gid) → c ≡ length s
-            → ys ≡ putFrom 0 s (take (length three - 4) (drop 4 three)) → putMid 4 (length three - 4) three ys ≡ contextOfWords (patternIn words starts i to) uid gid
+        pub context-written : (uid gid namespace ys : List ℕ) → u ≡ sortNumber (sortOf uid) → g ≡ sortNumber (sortOf gid) → n ≡ sortNumber (sortOf namespace)
+            → c ≡ length s → ys ≡ putFrom 0 s (take (length front - 4) (drop 4 front))
+            → putMid 4 (length front - 4) front ys ≡ contextOfWords (patternIn words starts i to) uid gid namespace
         unfolding contextOfWords
-        context-written uid gid ys eu eg ec ey =
+        context-written uid gid namespace ys eu eg en ec ey =
             let w : ys ≡ padded mostElements s = ey ∙ rw z (words-written mostElements s (few-words words starts i to h s e few)) in
-            rw (pattern-found words starts i to h, ← e, z, w, ec, eu, eg) (ap (λ (l : List ℕ). length s ∷ sortNumber (sortOf uid) ∷ sortNumber (sortOf gid) ∷ 0 ∷ l)
+            rw (pattern-found words starts i to h, ← e, z, w, ec, eu, eg, en) (ap (λ (l : List ℕ). length s ∷ sortNumber (sortOf uid) ∷ sortNumber (sortOf gid) ∷ sortNumber (sortOf namespace) ∷ l)
             (append-nil (padded mostElements s)))
 
-pub length-context : (pattern uid gid : List ℕ) → length pattern ≤ mostElements → length (contextOfWords pattern uid gid) ≡ contextSize
+pub length-context : (pattern uid gid namespace : List ℕ) → length pattern ≤ mostElements → length (contextOfWords pattern uid gid namespace) ≡ contextSize
 unfolding contextOfWords
-length-context pattern uid gid few = omega (arith, length-padded mostElements pattern few)
+length-context pattern uid gid namespace few = omega (arith, length-padded mostElements pattern few)
 
 -- ---- by the names
 

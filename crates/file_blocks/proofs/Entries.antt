@@ -168,7 +168,7 @@ module _ (t list words starts : List ℕ) (n from to : ℕ) (within : to ≤ n) 
   length-context-in : (place : ℕ) → IsContext place → length (elements (valueAt (callContextIn place) fs)) ≤ mostElements
       → length (contextIn t list words starts place from to) ≡ 20
   unfolding contextIn
-  length-context-in place which few = length-context _ _ _ (pattern-few t list words starts n from to within worded place which few)
+  length-context-in place which few = length-context _ _ _ _ (pattern-few t list words starts n from to within worded place which few)
 
   context-known : (place : ℕ) → IsContext place → contextIn t list words starts place from to ≡ contextWords (contextOf (identifiersAt subjectMembers file) (domainsAt subjectName file) place fs)
   context-known place which = context-in t list words starts n from to within worded place which ∙ context-is (identifiersAt subjectMembers file) (domainsAt subjectName file) place fs

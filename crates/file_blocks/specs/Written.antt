@@ -8,7 +8,7 @@ use Rattle.paper.specs.Common.{is}
 use Rattle.paper.specs.Limits.{mostElements}
 use Rattle.paper.specs.Scalars.{sortNumber, sortOf}
 use Rattle.paper.specs.Lists.{elements}
-use Rattle.paper.specs.Listing.{subjectOfEntry, canRead, canWrite, callContextIn, uidIn, gidIn}
+use Rattle.paper.specs.Listing.{subjectOfEntry, canRead, canWrite, callContextIn, uidIn, gidIn, namespaceIn}
 use Rattle.paper.specs.Page.{Field}
 use Rattle.paper.specs.Entries.{valueAt}
 use Rattle.paper.specs.Rules.{descriptorsOf}
@@ -28,8 +28,9 @@ unfoldable pub patternIn : List ℕ → List ℕ → ℕ → ℕ → List ℕ
 patternIn words starts i to = cond (ltb i to) (wordsIn words starts i) (0 ∷ [])
 
 -- the words of a context, by those of its pattern and the values of its other keys
-unfoldable pub contextOfWords : List ℕ → List ℕ → List ℕ → List ℕ
-contextOfWords pattern uid gid = length pattern ∷ sortNumber (sortOf uid) ∷ sortNumber (sortOf gid) ∷ 0 ∷ padded mostElements pattern
+unfoldable pub contextOfWords : List ℕ → List ℕ → List ℕ → List ℕ → List ℕ
+contextOfWords pattern uid gid namespace =
+    length pattern ∷ sortNumber (sortOf uid) ∷ sortNumber (sortOf gid) ∷ sortNumber (sortOf namespace) ∷ padded mostElements pattern
 
 -- those of the context at a place, among the fields from one number up to another
 unfoldable pub contextIn : List ℕ → List ℕ → List ℕ → List ℕ → ℕ → ℕ → ℕ → List ℕ
@@ -37,6 +38,7 @@ contextIn t list words starts place from to =
     contextOfWords (patternIn words starts (nextAt list (callContextIn place) from (to - from)) to)
     (valueAt (uidIn place) (between t list from to))
     (valueAt (gidIn place) (between t list from to))
+    (valueAt (namespaceIn place) (between t list from to))
 
 -- ---- grants
 
@@ -64,12 +66,13 @@ grantIn t list words starts place from to n =
 
 module _ (word : List ℕ → ℕ) where
   -- the words of a context, by the values of its keys
-  unfoldable pub contextBy : List ℕ → List ℕ → List ℕ → List ℕ
-  contextBy pattern uid gid = contextOfWords (map word (elements pattern)) uid gid
+  unfoldable pub contextBy : List ℕ → List ℕ → List ℕ → List ℕ → List ℕ
+  contextBy pattern uid gid namespace = contextOfWords (map word (elements pattern)) uid gid namespace
 
   -- the same of the context at a place, among these fields
   abbrev pub contextAt : ℕ → List Field → List ℕ
-  contextAt place fs = contextBy (valueAt (callContextIn place) fs) (valueAt (uidIn place) fs) (valueAt (gidIn place) fs)
+  contextAt place fs =
+      contextBy (valueAt (callContextIn place) fs) (valueAt (uidIn place) fs) (valueAt (gidIn place) fs) (valueAt (namespaceIn place) fs)
 
   -- of an entry: its subject, and how many descriptors it has for reads and for writes
   abbrev pub countsBy : List Field → List ℕ

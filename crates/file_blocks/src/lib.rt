@@ -51,15 +51,18 @@ fn write_keys(
     to: usize,
     uid: &[u8],
     gid: &[u8],
+    namespace: &[u8],
     out: &mut [u16],
 )
     requires { ⌜ to < length (now starts) ⌝ }
     requires { ⌜ length (patternIn (now words) (now starts) i to) ≤ mostElements ⌝ }
     requires { ⌜ now out ≡ replicate contextSize 0 ⌝ }
-    ensures { λ _. ⌜ now (out .exit) ≡ contextOfWords (patternIn (now (words .entry)) (now (starts .entry)) i to) (now (uid .entry)) (now (gid .entry)) ⌝ }
+    ensures { λ _. ⌜ now (out .exit) ≡ contextOfWords (patternIn (now (words .entry)) (now (starts .entry)) i to)
+        (now (uid .entry)) (now (gid .entry)) (now (namespace .entry)) ⌝ }
 {
     out[layout::UID_AT] = values::sort_of(uid);
     out[layout::GID_AT] = values::sort_of(gid);
+    out[layout::NAMESPACE_AT] = values::sort_of(namespace);
     if to <= i {
         out[0] = 1;
         return;
@@ -87,8 +90,9 @@ fn write_context(
 {
     let uid = value_at(t, list, place + rows::UID, from, to, b"all", b"[]");
     let gid = value_at(t, list, place + rows::GID, from, to, b"all", b"[]");
+    let namespace = value_at(t, list, place + rows::NAMESPACE, from, to, b"all", b"[]");
     let i = next_at(list, place + rows::CALL_CONTEXT, from, to);
-    write_keys(words, starts, i, to, uid, gid, out);
+    write_keys(words, starts, i, to, uid, gid, namespace, out);
 }
 
 // Puts the domain with this number into a set, if there is one among n.

@@ -3,7 +3,7 @@ use mathlib.Core.Path.{_≡_, refl, _∙_}
 use mathlib.Core.List.{List}
 use Prim.Native.Nat.{ℕ}
 use Rattle.paper.specs.Common.{bytes, anyOf}
-use Rattle.paper.specs.Listing.{subjectOfEntry, executionContext, callContextIn, uidIn, gidIn}
+use Rattle.paper.specs.Listing.{subjectOfEntry, executionContext, callContextIn, uidIn, gidIn, namespaceIn}
 use Rattle.paper.specs.Page.{Field}
 use Rattle.paper.specs.Entries.{callContexts, defaultAt, valueAt}
 use Rattle.file_fields.specs.Fields.{valueOr}
@@ -27,3 +27,7 @@ uid-omitted = refl
 pub gid-omitted : bytes "all" ≡ defaultAt (gidIn executionContext)
 unfolding defaultAt callContexts anyOf
 gid-omitted = refl
+
+pub namespace-omitted : bytes "all" ≡ defaultAt (namespaceIn executionContext)
+unfolding defaultAt callContexts anyOf
+namespace-omitted = refl

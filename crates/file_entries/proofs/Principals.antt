@@ -8,12 +8,12 @@ use lib.Dec.{eqb}
 use lib.ListN.{getD}
 use borrow.Author.Tests.{eqb-true}
 use Rattle.paper.specs.Common.{bytes, same}
-use Rattle.paper.specs.Listing.{subjectOfEntry, executionContext, callContextIn, uidIn, gidIn}
+use Rattle.paper.specs.Listing.{subjectOfEntry, executionContext, callContextIn, uidIn, gidIn, namespaceIn}
 use Rattle.paper.specs.Scalars.{Sort, anyone, variable, root, user, sortNumber, sortOf}
 use Rattle.paper.specs.Page.{Field}
 use Rattle.paper.specs.Entries.{defaultAt, valueAt}
-use Rattle.paper.specs.Rules.{sameSort, samePrincipal}
-use Rattle.laws.proofs.Tests.{same-equal, both-of}
+use Rattle.paper.specs.Rules.{sameSort, sameSortAt, samePrincipal}
+use Rattle.laws.proofs.Tests.{same-equal, both-left, both-right}
 use Rattle.file_fields.specs.Fields.{valueOr}
 use Rattle.file_index.specs.Buckets.{multiplier, hashOf}
 use Rattle.file_entries.specs.Principals.{sorts, hashAt, sortAt, principalHash, entryIn, Hashed}
@@ -50,41 +50,36 @@ sorts-are place fs gs a b p q = rw (p, q) refl
 
 -- ---- all of it
 
-pub principal-is : (a b : List Field) (s p u g : Bool)
+pub principal-is : (a b : List Field) (s p u g n : Bool)
     → s ≡ same (valueAt subjectOfEntry a) (valueAt subjectOfEntry b)
     → p ≡ same (valueAt (callContextIn executionContext) a) (valueAt (callContextIn executionContext) b)
     → u ≡ sameSort (valueAt (uidIn executionContext) a) (valueAt (uidIn executionContext) b)
     → g ≡ sameSort (valueAt (gidIn executionContext) a) (valueAt (gidIn executionContext) b)
-    → (s && p && u && g) ≡ samePrincipal a b
-unfolding samePrincipal
-principal-is a b s p u g e f h k = rw (e, f, h, k) refl
+    → n ≡ sameSort (valueAt (namespaceIn executionContext) a) (valueAt (namespaceIn executionContext) b)
+    → (s && p && u && g && n) ≡ samePrincipal a b
+unfolding samePrincipal sameSortAt
+principal-is a b s p u g n e f h k l = rw (e, f, h, k, l) refl
 
-pub principal-hash-is : (entry : List Field) (s p u g : ℕ)
+pub principal-hash-is : (entry : List Field) (s p u g n : ℕ)
     → s ≡ hashAt subjectOfEntry entry → p ≡ hashAt (callContextIn executionContext) entry → u ≡ sortAt (uidIn executionContext) entry → g ≡ sortAt (gidIn executionContext) entry
-    → 4 * (4 * (s + p) + u) + g ≡ principalHash entry
+    → n ≡ sortAt (namespaceIn executionContext) entry → 4 * (4 * (4 * (s + p) + u) + g) + n ≡ principalHash entry
 unfolding principalHash
-principal-hash-is entry s p u g e f h k = rw (e, f, h, k) refl
+principal-hash-is entry s p u g n e f h k l = rw (e, f, h, k, l) refl
 
-four : (a b c d : Bool) → (a && b && c && d) ≡ true → (a ≡ true) × (b ≡ true) × (c ≡ true) × (d ≡ true)
-four a b c d h =
-    let three = both-of (a && b && c) d h in
-    let two = both-of (a && b) c (three .0) in
-    let one = both-of a b (two .0) in (one .0, one .1, two .1, three .1)
+-- sorts that are the same have one number
+sorts-alike : (key : ℕ → ℕ) (a b : List Field) → sameSortAt key a b ≡ true → sortAt (key executionContext) a ≡ sortAt (key executionContext) b
+unfolding sameSortAt sameSort sortAt
+sorts-alike key a b h = eqb-true _ _ h
 
 same-hashes : (a b : List Field) → samePrincipal a b ≡ true → principalHash a ≡ principalHash b
-unfolding samePrincipal principalHash hashAt sortAt sameSort
+unfolding samePrincipal principalHash hashAt
 same-hashes a b h =
-    let parts = four
-    (same (valueAt subjectOfEntry a) (valueAt subjectOfEntry b))
-    (same (valueAt (callContextIn executionContext) a) (valueAt (callContextIn executionContext) b))
-    (sameSort (valueAt (uidIn executionContext) a) (valueAt (uidIn executionContext) b))
-    (sameSort (valueAt (gidIn executionContext) a) (valueAt (gidIn executionContext) b))
-    h in
-    let subject : valueAt subjectOfEntry a ≡ valueAt subjectOfEntry b = same-equal _ _ (parts .0) in
-    let pattern : valueAt (callContextIn executionContext) a ≡ valueAt (callContextIn executionContext) b = same-equal _ _ (parts .1) in
-    let uid : sortNumber (sortOf (valueAt (uidIn executionContext) a)) ≡ sortNumber (sortOf (valueAt (uidIn executionContext) b)) = eqb-true _ _ (parts .2) in
-    let gid : sortNumber (sortOf (valueAt (gidIn executionContext) a)) ≡ sortNumber (sortOf (valueAt (gidIn executionContext) b)) = eqb-true _ _ (parts .3) in
-    rw (subject, pattern, uid, gid) refl
+    let subject : valueAt subjectOfEntry a ≡ valueAt subjectOfEntry b = same-equal _ _ (search (both-left, both-right) depth 7) in
+    let pattern : valueAt (callContextIn executionContext) a ≡ valueAt (callContextIn executionContext) b = same-equal _ _ (search (both-left, both-right) depth 7) in
+    let uid = sorts-alike uidIn a b (search (both-left, both-right) depth 7) in
+    let gid = sorts-alike gidIn a b (search (both-left, both-right) depth 7) in
+    let namespace = sorts-alike namespaceIn a b (search (both-left, both-right) depth 7) in
+    rw (subject, pattern, uid, gid, namespace) refl
 
 module _ (t list starts hashes : List ℕ) (a b : ℕ) where
   pub other-hash : Hashed t list starts hashes a → Hashed t list starts hashes b → (getD hashes a 0 ≡ getD hashes b 0 → ⊥) → false ≡ samePrincipal (entryIn t list starts a) (entryIn t list starts b)

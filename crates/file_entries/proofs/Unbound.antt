@@ -52,9 +52,10 @@ module _ (t list : List ℕ) (key i : ℕ) (entry : List Field) where
       → s ≡ same (valueIn t list i) (valueAt (executionContext + key) entry) → not s ≡ isUnboundKey (keyIn key) entry (fieldAt t list i)
   key-variable a b s e h f k g = sym (key-is ∙ rw (← e, not-false a h, ← f, not-false b k, ← g) refl)
 
-pub either-key : (entry : List Field) (f : Field) (a b : Bool) → a ≡ isUnboundKey (keyIn 2) entry f → b ≡ isUnboundKey (keyIn 3) entry f → (a || b) ≡ isUnbound entry f
+pub any-key : (entry : List Field) (f : Field) (a b c : Bool) → a ≡ isUnboundKey (keyIn 2) entry f → b ≡ isUnboundKey (keyIn 3) entry f → c ≡ isUnboundKey (keyIn 4) entry f
+    → (a || b || c) ≡ isUnbound entry f
 unfolding isUnbound keyIn
-either-key entry f a b p q = rw (p, q) refl
+any-key entry f a b c p q r = rw (p, q, r) refl
 
 -- ---- the smallest line
 

@@ -3,7 +3,7 @@ use Prim.Native.Nat.{ℕ, zero, suc, _+_, _*_, _<_, _≤_}
 use mathlib.Core.Path.{_≡_}
 use mathlib.Core.List.{List, [], _∷_}
 use lib.ListN.{length, getD}
-use Rattle.paper.specs.Listing.{subjectOfEntry, executionContext, callContextIn, uidIn, gidIn}
+use Rattle.paper.specs.Listing.{subjectOfEntry, executionContext, callContextIn, uidIn, gidIn, namespaceIn}
 use Rattle.paper.specs.Scalars.{sortNumber, sortOf}
 use Rattle.paper.specs.Page.{Field}
 use Rattle.paper.specs.Entries.{valueAt}
@@ -26,8 +26,10 @@ sortAt place entry = sortNumber (sortOf (valueAt place entry))
 unfoldable pub principalHash : List Field → ℕ
 principalHash entry =
     sorts
+    * (sorts
     * (sorts * (hashAt subjectOfEntry entry + hashAt (callContextIn executionContext) entry) + sortAt (uidIn executionContext) entry)
-    + sortAt (gidIn executionContext) entry
+    + sortAt (gidIn executionContext) entry)
+    + sortAt (namespaceIn executionContext) entry
 
 -- room for the starts of the entries, and for the end of the last
 abbrev pub startsSize : ℕ

@@ -73,6 +73,7 @@ fn is_unbound(t: &[u8], list: &[usize], i: usize, from: usize, to: usize) -> boo
 {
     is_unbound_key(t, list, rows::UID, i, from, to)
         | is_unbound_key(t, list, rows::GID, i, from, to)
+        | is_unbound_key(t, list, rows::NAMESPACE, i, from, to)
 }
 
 // 10 in one entry.
@@ -139,7 +140,8 @@ fn principal_hash(t: &[u8], list: &[usize], from: usize, to: usize) -> usize
     let pattern = hash_at(t, list, rows::EXECUTION_CALL_CONTEXT, from, to, b"[all]");
     let uid = sort_at(t, list, rows::EXECUTION_UID, from, to);
     let gid = sort_at(t, list, rows::EXECUTION_GID, from, to);
-    SORTS * (SORTS * (subject + pattern) + uid) + gid
+    let namespace = sort_at(t, list, rows::EXECUTION_NAMESPACE, from, to);
+    SORTS * (SORTS * (SORTS * (subject + pattern) + uid) + gid) + namespace
 }
 
 fn same_value<'a>(
@@ -205,7 +207,8 @@ fn same_principal(
     );
     let uid = same_sort(t, list, rows::EXECUTION_UID, from, to, start, end);
     let gid = same_sort(t, list, rows::EXECUTION_GID, from, to, start, end);
-    subject & pattern & uid & gid
+    let namespace = same_sort(t, list, rows::EXECUTION_NAMESPACE, from, to, start, end);
+    subject & pattern & uid & gid & namespace
 }
 
 // Entries a and b have the same principal. Hashes are compared first since they nearly always tell.

@@ -9,7 +9,7 @@ use mir.Syntax.{w64}
 use mir.Val.{Fits}
 use lib.Dec.{eqb}
 use Rattle.paper.specs.Common.{bytes, anyOf}
-use Rattle.paper.specs.Listing.{executionContext, canCall, canReturn, canRead, canWrite, subjectOfEntry, callContextIn, uidIn, gidIn, objectsIn, objectContextIn}
+use Rattle.paper.specs.Listing.{executionContext, canCall, canReturn, canRead, canWrite, subjectOfEntry, callContextIn, uidIn, gidIn, namespaceIn, objectsIn, objectContextIn}
 use Rattle.paper.specs.Page.{Field}
 use Rattle.paper.specs.Entries.{callContexts, defaultAt, valueAt}
 use Rattle.file_fields.specs.Fields.{valueOr}
@@ -20,9 +20,9 @@ or-false : (b : Bool) → (b || false) ≡ b
 or-false true = refl
 or-false false = refl
 
-pub one-of-three : (p : ℕ) → (eqb p 11 || (eqb p 19 || eqb p 25)) ≡ anyOf (eqb p) callContexts
+pub one-of-three : (p : ℕ) → (eqb p 11 || (eqb p 20 || eqb p 27)) ≡ anyOf (eqb p) callContexts
 unfolding anyOf callContexts
-one-of-three p = rw (or-false (eqb p 25)) refl
+one-of-three p = rw (or-false (eqb p 27)) refl
 
 pub call-default : defaultAt canCall ≡ bytes "all"
 unfolding defaultAt callContexts anyOf
@@ -83,6 +83,10 @@ module _ (place : ℕ) (which : IsContext place) where
   unfolding defaultAt callContexts anyOf
   gid-default = by-context (λ p. defaultAt (gidIn p) ≡ bytes "all") refl refl refl
 
+  pub namespace-default : defaultAt (namespaceIn place) ≡ bytes "all"
+  unfolding defaultAt callContexts anyOf
+  namespace-default = by-context (λ p. defaultAt (namespaceIn p) ≡ bytes "all") refl refl refl
+
   place-below : place ≤ objectContextIn canWrite
   place-below = by-context (λ p. p ≤ objectContextIn canWrite) (omega arith) (omega arith) (omega arith)
 
@@ -94,6 +98,9 @@ module _ (place : ℕ) (which : IsContext place) where
 
   pub gid-fits : Fits w64 (place + 3)
   gid-fits = omega (arith, place-below)
+
+  pub namespace-fits : Fits w64 (place + 4)
+  namespace-fits = omega (arith, place-below)
 
 -- the value at a place, by what it is where it is omitted
 pub told-value : (place : ℕ) (fs : List Field) (omitted v : List ℕ) → defaultAt place ≡ omitted → v ≡ valueOr omitted (bytes "[]") place fs → v ≡ valueAt place fs

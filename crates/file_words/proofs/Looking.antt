@@ -28,7 +28,7 @@ module _ (place : ℕ) where
   unfolding soughtAt
   seeks-subject h = rw (eq-eqb place 9 h) refl
 
-  module _ (h : place ≡ 9 → ⊥) (a : Bool) (e : a ≡ anyOf (eqb place) (14 ∷ 15 ∷ [])) where
+  module _ (h : place ≡ 9 → ⊥) (a : Bool) (e : a ≡ anyOf (eqb place) (15 ∷ 16 ∷ [])) where
     lists-subjects : anyOf (eqb place) subjectLists ≡ a
     unfolding subjectLists
     lists-subjects = sym e
@@ -37,7 +37,7 @@ module _ (place : ℕ) where
     unfolding soughtAt
     seeks-subjects k = rw (ne-eqb place 9 h, lists-subjects, k) refl
 
-    module _ (k : a ≡ false) (b : Bool) (f : b ≡ anyOf (eqb place) (17 ∷ 23 ∷ [])) where
+    module _ (k : a ≡ false) (b : Bool) (f : b ≡ anyOf (eqb place) (18 ∷ 25 ∷ [])) where
       lists-objects : anyOf (eqb place) objectLists ≡ b
       unfolding objectLists
       lists-objects = sym f

@@ -7,7 +7,7 @@ use native.Mathlib.Omega.{arith}
 use lib.ListN.{length}
 use borrow.Author.Tests.{ne-eqb}
 use Rattle.paper.specs.Common.{isEmpty}
-use Rattle.paper.specs.Listing.{callContextIn, uidIn, gidIn, objectsIn, objectContextIn}
+use Rattle.paper.specs.Listing.{callContextIn, uidIn, gidIn, namespaceIn, objectsIn, objectContextIn}
 use Rattle.paper.specs.Page.{Field}
 use Rattle.paper.specs.Entries.{stretchesFrom, itemsOf}
 use Rattle.paper.specs.Filled.{bareLine, valueLine, contextText, itemText, accessText}
@@ -20,7 +20,8 @@ use Rattle.filled_lines.proofs.Writing.{left, over, wrote-on, first-room, last-
 -- ---- a context
 
 module _ (place : ℕ) (fs : List Field) (old : List ℕ) where
-  pub ids-room : length (idsText place fs) ≤ length old → length (valueLine (uidIn place) fs ++ valueLine (gidIn place) fs) ≤ length old
+  pub ids-room : length (idsText place fs) ≤ length old
+      → length (valueLine (uidIn place) fs ++ (valueLine (gidIn place) fs ++ valueLine (namespaceIn place) fs)) ≤ length old
   unfolding idsText
   ids-room h = h
 
@@ -30,7 +31,8 @@ module _ (place : ℕ) (fs : List Field) (old : List ℕ) where
   context-room h = h
 
   module _ (out : List ℕ) (n : ℕ) where
-    pub ids-wrote : Wrote (valueLine (uidIn place) fs ++ valueLine (gidIn place) fs) old out n → Wrote (idsText place fs) old out n
+    pub ids-wrote : Wrote (valueLine (uidIn place) fs ++ (valueLine (gidIn place) fs ++ valueLine (namespaceIn place) fs)) old out n
+        → Wrote (idsText place fs) old out n
     unfolding idsText
     ids-wrote w = w
 

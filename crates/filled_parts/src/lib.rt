@@ -35,7 +35,7 @@ pub fn value_line<'a>(
     key_line(place, v, out)
 }
 
-// `uid` and `gid` of a context.
+// `uid`, `gid` and `namespace` of a context.
 fn ids(t: &[u8], list: &[usize], place: usize, from: usize, to: usize, out: &mut [u8]) -> usize
     requires { ⌜ fieldSize * to ≤ length (now list) ⌝ }
     requires { ⌜ IsContext place ⌝ }
@@ -44,8 +44,10 @@ fn ids(t: &[u8], list: &[usize], place: usize, from: usize, to: usize, out: &mut
 {
     let uid = place + rows::UID;
     let gid = place + rows::GID;
-    let end = value_line(t, list, uid, from, to, b"all", out);
-    end + value_line(t, list, gid, from, to, b"all", &mut out[end..])
+    let namespace = place + rows::NAMESPACE;
+    let a = value_line(t, list, uid, from, to, b"all", out);
+    let b = a + value_line(t, list, gid, from, to, b"all", &mut out[a..]);
+    b + value_line(t, list, namespace, from, to, b"all", &mut out[b..])
 }
 
 pub fn context(

@@ -6,7 +6,7 @@ use native.Mathlib.Omega.{arith}
 use lib.ListN.{length, length-append}
 use borrow.Author.Tests.{ne-eqb}
 use Rattle.paper.specs.Listing.{principal, subjectOfEntry, executionContext, canCall, canReturn, canRead, canWrite}
-use Rattle.paper.specs.Listing.{callContextIn, uidIn, gidIn, objectsIn, objectContextIn}
+use Rattle.paper.specs.Listing.{callContextIn, uidIn, gidIn, namespaceIn, objectsIn, objectContextIn}
 use Rattle.paper.specs.Page.{Field}
 use Rattle.paper.specs.Entries.{itemsOf, entriesOf}
 use Rattle.paper.specs.Filled.{bareLine, writtenLine, valueLine, contextText, itemText, accessText, entryText, filledText}
@@ -15,10 +15,11 @@ use Rattle.file_fields.proofs.Between.{before-next}
 use Rattle.file_fields.proofs.Walking.{walked, stretches-first, stretches-more, stretches-none}
 
 module _ (place : ℕ) (fs : List Field) where
-  pub context-length : (a b c d : ℕ) → a ≡ length (bareLine place) → b ≡ length (valueLine (callContextIn place) fs)
-      → c ≡ length (valueLine (uidIn place) fs) → d ≡ length (valueLine (gidIn place) fs) → a + (b + (c + d)) ≡ length (contextText place fs)
+  pub context-length : (a b c d e : ℕ) → a ≡ length (bareLine place) → b ≡ length (valueLine (callContextIn place) fs)
+      → c ≡ length (valueLine (uidIn place) fs) → d ≡ length (valueLine (gidIn place) fs) → e ≡ length (valueLine (namespaceIn place) fs)
+      → a + (b + (c + (d + e))) ≡ length (contextText place fs)
   unfolding contextText
-  context-length a b c d p q r s = rw (p, q, r, s, length-append, length-append, length-append) refl
+  context-length a b c d e p q r s u = rw (p, q, r, s, u, length-append, length-append, length-append, length-append) refl
 
   pub item-length : (a b : ℕ) → a ≡ length (valueLine (objectsIn place) fs) → b ≡ length (contextText (objectContextIn place) fs)
       → a + b ≡ length (itemText place fs)

@@ -7,10 +7,10 @@ use Rattle.text_keys.specs.Rows.{mostKey}
 abbrev pub mostLine : ℕ
 mostLine = mostKey + textBytes + 2
 
--- an item has five lines
+-- an item has six lines
 abbrev pub mostItem : ℕ
-mostItem = 5 * mostLine
+mostItem = 6 * mostLine
 
--- an entry has eight lines, and for each access one line more and its items
+-- an entry has nine lines, and for each access one line more and its items
 abbrev pub mostEntry : ℕ → ℕ
-mostEntry fields = 10 * mostLine + 2 * mostItem * fields
+mostEntry fields = 11 * mostLine + 2 * mostItem * fields

@@ -52,12 +52,13 @@ fn value_line<'a>(
 fn context(t: &[u8], list: &[usize], place: usize, from: usize, to: usize) -> usize
     requires { ⌜ (fieldSize * to ≤ length (now list)) × (length (now t) ≤ textBytes) ⌝ }
     requires { ⌜ IsContext place ⌝ }
-    ensures { λ r. ⌜ (r ≡ length (contextText place (between (now (t .entry)) (now (list .entry)) from to))) × (r ≤ 4 * mostLine) ⌝ }
+    ensures { λ r. ⌜ (r ≡ length (contextText place (between (now (t .entry)) (now (list .entry)) from to))) × (r ≤ 5 * mostLine) ⌝ }
 {
     let call_context = value_line(t, list, place + rows::CALL_CONTEXT, from, to, b"[all]");
     let uid = value_line(t, list, place + rows::UID, from, to, b"all");
     let gid = value_line(t, list, place + rows::GID, from, to, b"all");
-    bare_line(place) + (call_context + (uid + gid))
+    let namespace = value_line(t, list, place + rows::NAMESPACE, from, to, b"all");
+    bare_line(place) + (call_context + (uid + (gid + namespace)))
 }
 
 fn item(t: &[u8], list: &[usize], access: usize, from: usize, to: usize) -> usize

@@ -14,7 +14,7 @@ use Rattle.paper.specs.declared.Verdict.{Verdict}
 use Rattle.paper.specs.declared.Verdict.the-variants.{Inside, Granted, Violation, Unjudged}
 use Rattle.paper.specs.Policy.{Entry, noEntry, Policy}
 use Rattle.paper.specs.Table.{policyIn, wellFormed}
-use Rattle.paper.specs.Match.{Moment, top, isListed, entryMatches}
+use Rattle.paper.specs.Match.{Moment, top, isListed, sortsFit, entryMatches}
 use Rattle.paper.specs.Verdict.{isCode, targetListed, insideOneDomain, entryGrants, byEntries, verdictOf}
 use Rattle.paper.specs.Promises.{accessFor, judgeEvent, judgeAnswer}
 use Rattle.laws.proofs.Tests.{both-true, both-left, both-right, either-left, either-right, either-of}
@@ -123,19 +123,20 @@ module _ (p : Policy) (a : Access) (m allocation : Moment) where
   stays-inside i = both-true _ _ (i .callOrReturn) (eq-eqb _ _ (i .oneDomain))
 
   entry-grants : (e : Entry) → allowsIt p a m allocation e ≡ true → MatchesAndGrants p a m allocation e
-  unfolding entryMatches
+  unfolding entryMatches sortsFit
   entry-grants e h =
       record {
         subject = search (both-left, both-right) depth 10;
         stack = search (both-left, both-right) depth 10;
         uid = search (both-left, both-right) depth 10;
         gid = search (both-left, both-right) depth 10;
+        namespace = search (both-left, both-right) depth 10;
         grants = search (both-left, both-right) depth 10;
       }
 
   grants-entry : (e : Entry) → MatchesAndGrants p a m allocation e → allowsIt p a m allocation e ≡ true
-  unfolding entryMatches
-  grants-entry e g = rw (g .subject, g .stack, g .uid, g .gid, g .grants)
+  unfolding entryMatches sortsFit
+  grants-entry e g = rw (g .subject, g .stack, g .uid, g .gid, g .namespace, g .grants)
 
   some-grants : someEntry ≡ true → SomeEntryGrants p a m allocation
   some-grants h =

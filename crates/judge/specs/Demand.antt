@@ -35,12 +35,13 @@ pub record StaysInside (p : Policy) (a : Access) (m : Moment) : Type 0 where
   pub callOrReturn : isCode a ≡ true
   pub oneDomain : targetDomain p a ≡ getD (p .functions) (top (m .stack)) 0
 
--- an entry "that matches subject, stack, uid and gid grants it"
+-- an entry "that matches subject, stack, uid and gid grants it"; and namespace (document 02 g)
 pub record MatchesAndGrants (p : Policy) (a : Access) (m allocation : Moment) (e : Entry) : Type 0 where
   pub subject : topLiesIn p (e .subject) (m .stack) ≡ true
   pub stack : matches (p .functions) (e .context .pattern) (m .stack) ≡ true
   pub uid : sortFits (e .context .uid) (m .uid) ≡ true
   pub gid : sortFits (e .context .gid) (m .gid) ≡ true
+  pub namespace : sortFits (e .context .namespace) (m .namespace) ≡ true
   pub grants : entryGrants p e a m allocation ≡ true
 
 -- "some entry"

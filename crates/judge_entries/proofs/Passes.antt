@@ -14,7 +14,7 @@ use Rattle.paper.specs.declared.Verdict.{Verdict}
 use Rattle.paper.specs.declared.Verdict.the-variants.{Granted, Violation}
 use Rattle.paper.specs.Policy.{Entry, Policy}
 use Rattle.paper.specs.Table.{readsAt, writesAt, entryAt, word, subjectDomainCount, entryCount, readCount, writeCount, grantIn, descriptorIn, entryIn, policyIn, firstDescriptor}
-use Rattle.paper.specs.Match.{Moment, entryMatches, grants, descriptorGrants, someDescriptorGrants, contextFitsObject, fitsAllocated}
+use Rattle.paper.specs.Match.{Moment, entryMatches, grants, descriptorGrants, someDescriptorGrants, contextFitsObject, fitsAllocated, allocatedSortsFit}
 use Rattle.paper.specs.Verdict.{isCode, targetDomain, entryGrants, byEntries}
 use Rattle.laws.proofs.Counting.{counted-step, counted-end}
 use Rattle.judge_match.specs.declared.Event.{Event}
@@ -100,11 +100,11 @@ module _ (ws : List ℕ) (m : Moment) where
 
 -- ---- the second pass
 
--- of the moment that an entry looks at for a grant, only uid and gid count
+-- of the moment that an entry looks at for a grant, only uid, gid and namespace count
 ids-count :
     (p : Policy) (e : Entry) (a : Access) (s : List ℕ) (event : Event) (allocation : Moment)
     → entryGrants p e a (momentOf s (event .ids)) allocation ≡ entryGrants p e a (binding event) allocation
-unfolding entryGrants someDescriptorGrants descriptorGrants contextFitsObject fitsAllocated
+unfolding entryGrants someDescriptorGrants descriptorGrants contextFitsObject fitsAllocated allocatedSortsFit
 ids-count p e (Read o) s event allocation = refl
 ids-count p e (Write o) s event allocation = refl
 ids-count p e (Call f) s event allocation = refl

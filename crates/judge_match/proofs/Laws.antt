@@ -1,7 +1,7 @@
 -- What the functions of this crate need, as plain laws: the facts that a place in the code has, and what is to be shown there.
 use mathlib.Core.Path.{_≡_, refl, sym, _∙_}
 use mathlib.Core.Bool.{Bool, true, false, not, _||_, and-true, and-false}
-use mathlib.Core.List.{List, map}
+use mathlib.Core.List.{List, [], map}
 use Prim.Native.Nat.{ℕ, zero, suc, _+_, _-_, _<_, _≤_}
 use native.Mathlib.Omega.{arith}
 use native.Mathlib.Nat.{add-assoc, zero-add}
@@ -11,12 +11,14 @@ use lib.Seq.{take-all}
 use borrow.Author.Tests.{eq-eqb, ne-eqb, lt-ltb}
 use Rattle.paper.specs.Common.{allOf, anyOf, countUp}
 use Rattle.paper.specs.Scalars.{sortNumber}
-use Rattle.paper.specs.Table.{setAt, uidAt, gidAt, everyWord, variableWord, subjectAt, grantAt, entryAt, descriptorAt, word, objectDomainCount, patternWordsIn, functionDomainsIn}
+use Rattle.paper.specs.Table.{setAt, uidAt, gidAt, namespaceAt, everyWord, variableWord, subjectAt, grantAt, entryAt, descriptorAt, word, objectDomainCount, patternWordsIn, functionDomainsIn}
 use Rattle.paper.specs.Table.{elementIn, sortIn, contextIn, isIn, grantIn, descriptorIn, entryIn, policyIn}
-use Rattle.paper.specs.Match.{liesIn, matches, topLiesIn, sortFits, allocatedSortFits, entryMatches, isAll, isAnyone, fitsStatic, fitsAllocated, contextFitsObject, grants}
+use Rattle.paper.specs.Match.{liesIn, matches, topLiesIn, sortFits, sortsFit, allocatedSortFits, allocatedSortsFit, entryMatches}
+use Rattle.paper.specs.Match.{isAll, isAnyone, sortsAnyone, fitsStatic, fitsAllocated, contextFitsObject, grants}
 use Rattle.paper.specs.Match.{descriptorGrants}
 use Rattle.laws.proofs.Counting.{length-map-counted, getD-counted, counted-step, counted-end}
 use Rattle.laws.proofs.Chains.{tested-false, tested-true, is-equal, is-other}
+use Rattle.judge_match.specs.declared.Ids.{Ids}
 use Rattle.judge_match.specs.declared.Event.{Event}
 use Rattle.judge_match.specs.Moments.{momentOf, binding, allocationOf, Placed}
 
@@ -57,6 +59,59 @@ anyone-is-zero (suc zero) = refl
 anyone-is-zero (suc (suc zero)) = refl
 anyone-is-zero (suc (suc (suc k))) = sym (ne-eqb (suc (suc (suc k))) 0 (λ (h : suc (suc (suc k)) ≡ 0). omega arith))
 
+-- ---- the sorts of a context, key by key
+
+module _ (ws : List ℕ) (at : ℕ) (ids : Ids) (u : ℕ) (a : Bool) (uid : u ≡ word ws (at + uidAt)) (told : a ≡ sortFits (sortIn u) (ids .uid)) where
+  abbrev sortsFitHere : Bool
+  sortsFitHere = sortsFit (contextIn ws at) (momentOf [] ids)
+
+  pub other-uid : not a ≡ true → false ≡ sortsFitHere
+  unfolding sortsFit contextIn
+  other-uid n = rw (← uid, tested-false _ a told n)
+
+  module _ (fits : not a ≡ false) (g : ℕ) (b : Bool) (gid : g ≡ word ws (at + gidAt)) (told′ : b ≡ sortFits (sortIn g) (ids .gid)) where
+    pub other-gid : not b ≡ true → false ≡ sortsFitHere
+    unfolding sortsFit contextIn
+    other-gid n = rw (← uid, tested-true _ a told fits, ← gid, tested-false _ b told′ n)
+
+    pub namespace-decides : (w : ℕ) (r : Bool) → not b ≡ false → w ≡ word ws (at + namespaceAt) → r ≡ sortFits (sortIn w) (ids .namespace) → r ≡ sortsFitHere
+    unfolding sortsFit contextIn
+    namespace-decides w r n e h = rw (← uid, tested-true _ a told fits, ← gid, tested-true _ b told′ n, ← e) h
+
+module _ (ws : List ℕ) (at : ℕ) (ids allocated : Ids) (u : ℕ) (a : Bool) (uid : u ≡ word ws (at + uidAt)) (told : a ≡ allocatedSortFits (sortIn u) (ids .uid) (allocated .uid)) where
+  abbrev allocatedFitHere : Bool
+  allocatedFitHere = allocatedSortsFit (contextIn ws at) (momentOf [] ids) (momentOf [] allocated)
+
+  pub allocated-uid : not a ≡ true → false ≡ allocatedFitHere
+  unfolding allocatedSortsFit contextIn
+  allocated-uid n = rw (← uid, tested-false _ a told n)
+
+  module _ (fits : not a ≡ false) (g : ℕ) (b : Bool) (gid : g ≡ word ws (at + gidAt)) (told′ : b ≡ allocatedSortFits (sortIn g) (ids .gid) (allocated .gid)) where
+    pub allocated-gid : not b ≡ true → false ≡ allocatedFitHere
+    unfolding allocatedSortsFit contextIn
+    allocated-gid n = rw (← uid, tested-true _ a told fits, ← gid, tested-false _ b told′ n)
+
+    pub allocated-namespace-decides :
+        (w : ℕ) (r : Bool) → not b ≡ false → w ≡ word ws (at + namespaceAt) → r ≡ allocatedSortFits (sortIn w) (ids .namespace) (allocated .namespace) → r ≡ allocatedFitHere
+    unfolding allocatedSortsFit contextIn
+    allocated-namespace-decides w r n e h = rw (← uid, tested-true _ a told fits, ← gid, tested-true _ b told′ n, ← e) h
+
+module _ (ws : List ℕ) (at u : ℕ) (uid : u ≡ word ws (at + uidAt)) where
+  pub uid-of-someone : (u ≡ 0 → ⊥) → false ≡ sortsAnyone (contextIn ws at)
+  unfolding sortsAnyone contextIn
+  uid-of-someone h = simp (anyone-is-zero, is-other _ 0 u uid h)
+
+  module _ (all : u ≡ 0) (g : ℕ) (gid : g ≡ word ws (at + gidAt)) where
+    pub gid-of-someone : (g ≡ 0 → ⊥) → false ≡ sortsAnyone (contextIn ws at)
+    unfolding sortsAnyone contextIn
+    gid-of-someone h = simp (anyone-is-zero, is-other _ 0 g gid h, and-false)
+
+    pub namespace-of-anyone : (w : ℕ) → g ≡ 0 → w ≡ word ws (at + namespaceAt) → eqb w 0 ≡ sortsAnyone (contextIn ws at)
+    unfolding sortsAnyone contextIn
+    namespace-of-anyone w h e =
+        rw (anyone-is-zero (word ws (at + uidAt)), is-equal _ 0 u uid all, anyone-is-zero (word ws (at + gidAt)), is-equal _ 0 g gid h)
+        (rw (anyone-is-zero (word ws (at + namespaceAt)), ← e))
+
 -- ---- an entry matches
 
 module _ (ws s : List ℕ) (event : Event) (placed : Placed ws s event) where
@@ -72,59 +127,43 @@ module _ (ws s : List ℕ) (event : Event) (placed : Placed ws s event) where
     unfolding entryMatches entryIn
     other-subject w e n = rw (← stands, ← e, top-lies-in w, ne-eqb (event .subject) w (λ (h : event .subject ≡ w). n (sym h)))
 
-    pub other-uid : (w : ℕ) (r : Bool) → w ≡ word ws (at + uidAt) → r ≡ sortFits (sortIn w) (event .ids .uid) → not r ≡ true → false ≡ entryMatchesHere
-    unfolding entryMatches entryIn contextIn
-    other-uid w r e h n = rw (← stands, ← e) (simp (tested-false _ r h n, and-false))
-
-    pub other-gid : (w : ℕ) (r : Bool) → w ≡ word ws (at + gidAt) → r ≡ sortFits (sortIn w) (event .ids .gid) → not r ≡ true → false ≡ entryMatchesHere
-    unfolding entryMatches entryIn contextIn
-    other-gid w r e h n = rw (← stands, ← e) (simp (tested-false _ r h n, and-false))
+    pub other-sorts : (r : Bool) → r ≡ sortsFit (contextIn ws at) (momentOf [] (event .ids)) → not r ≡ true → false ≡ entryMatchesHere
+    unfolding entryMatches entryIn sortsFit
+    other-sorts r h n = rw (← stands) (simp (tested-false _ r h n, and-false))
 
     pub pattern-decides :
-        (w u g : ℕ) (F p : List ℕ) (a b r : Bool) → w ≡ word ws (at + subjectAt) → w ≡ event .subject → u ≡ word ws (at + uidAt) → a ≡ sortFits (sortIn u) (event .ids .uid) → not a ≡ false
-        → g ≡ word ws (at + gidAt) → b ≡ sortFits (sortIn g) (event .ids .gid) → not b ≡ false → F ≡ functionDomainsIn ws → p ≡ patternWordsIn ws at
-        → r ≡ matches F (map elementIn p) s → r ≡ entryMatchesHere
-    unfolding entryMatches entryIn contextIn policyIn
-    pattern-decides w u g F p a b r e q f h n f′ h′ n′ x z y =
-        rw (← stands, ← e, top-lies-in w, eq-eqb (event .subject) w (sym q), ← f, tested-true _ a h n, ← f′, tested-true _ b h′ n′, ← x, ← z, ← y, and-true, and-true)
+        (w : ℕ) (F p : List ℕ) (a r : Bool) → w ≡ word ws (at + subjectAt) → w ≡ event .subject → a ≡ sortsFit (contextIn ws at) (momentOf [] (event .ids)) → not a ≡ false
+        → F ≡ functionDomainsIn ws → p ≡ patternWordsIn ws at → r ≡ matches F (map elementIn p) s → r ≡ entryMatchesHere
+    unfolding entryMatches entryIn sortsFit contextIn policyIn
+    pattern-decides w F p a r e q h n x z y =
+        rw (← stands, ← e, top-lies-in w, eq-eqb (event .subject) w (sym q), tested-true _ a h n, ← x, ← z, ← y, and-true)
 
 -- ---- a context fits an object
 
 module _ (ws : List ℕ) (at : ℕ) where
-  pub static-uid : (u : ℕ) → u ≡ word ws (at + uidAt) → (u ≡ 0 → ⊥) → false ≡ fitsStatic (contextIn ws at)
-  unfolding fitsStatic contextIn
-  static-uid u e h = simp (anyone-is-zero, is-other _ 0 u e h, and-false)
-
-  pub static-gid : (g : ℕ) → g ≡ word ws (at + gidAt) → (g ≡ 0 → ⊥) → false ≡ fitsStatic (contextIn ws at)
-  unfolding fitsStatic contextIn
-  static-gid g e h = simp (anyone-is-zero, is-other _ 0 g e h, and-false)
+  pub not-anyone : (r : Bool) → r ≡ sortsAnyone (contextIn ws at) → not r ≡ true → false ≡ fitsStatic (contextIn ws at)
+  unfolding fitsStatic
+  not-anyone r h n = simp (tested-false _ r h n, and-false)
 
   pub static-pattern-decides :
-      (u g : ℕ) (p : List ℕ) (r : Bool) → u ≡ word ws (at + uidAt) → u ≡ 0 → g ≡ word ws (at + gidAt) → g ≡ 0 → p ≡ patternWordsIn ws at → r ≡ allOf isAll (map elementIn p)
+      (p : List ℕ) (a r : Bool) → a ≡ sortsAnyone (contextIn ws at) → not a ≡ false → p ≡ patternWordsIn ws at → r ≡ allOf isAll (map elementIn p)
       → r ≡ fitsStatic (contextIn ws at)
   unfolding fitsStatic contextIn
-  static-pattern-decides u g p r e h f q z y = simp (anyone-is-zero, is-equal _ 0 u e h, is-equal _ 0 g f q, and-true) (y ∙ rw z)
+  static-pattern-decides p a r h n z y = rw (tested-true _ a h n, and-true) (y ∙ rw z)
 
   module _ (event : Event) (al : List ℕ) where
-    pub allocated-uid :
-        (u : ℕ) (r : Bool) → u ≡ word ws (at + uidAt) → r ≡ allocatedSortFits (sortIn u) (event .ids .uid) (event .allocated .uid) → not r ≡ true
-        → false ≡ fitsAllocated (policyIn ws) (contextIn ws at) (binding event) (allocationOf al event)
-    unfolding fitsAllocated contextIn
-    allocated-uid u r e h n = rw (← e) (simp (tested-false _ r h n, and-false))
+    abbrev numbersFit : Bool
+    numbersFit = allocatedSortsFit (contextIn ws at) (momentOf [] (event .ids)) (momentOf [] (event .allocated))
 
-    pub allocated-gid :
-        (g : ℕ) (r : Bool) → g ≡ word ws (at + gidAt) → r ≡ allocatedSortFits (sortIn g) (event .ids .gid) (event .allocated .gid) → not r ≡ true
-        → false ≡ fitsAllocated (policyIn ws) (contextIn ws at) (binding event) (allocationOf al event)
-    unfolding fitsAllocated contextIn
-    allocated-gid g r e h n = rw (← e) (simp (tested-false _ r h n, and-false))
+    pub other-numbers : (r : Bool) → r ≡ numbersFit → not r ≡ true → false ≡ fitsAllocated (policyIn ws) (contextIn ws at) (binding event) (allocationOf al event)
+    unfolding fitsAllocated allocatedSortsFit
+    other-numbers r h n = simp (tested-false _ r h n, and-false)
 
     pub allocated-pattern-decides :
-        (u g : ℕ) (F p : List ℕ) (a b r : Bool) → u ≡ word ws (at + uidAt) → a ≡ allocatedSortFits (sortIn u) (event .ids .uid) (event .allocated .uid) → not a ≡ false
-        → g ≡ word ws (at + gidAt) → b ≡ allocatedSortFits (sortIn g) (event .ids .gid) (event .allocated .gid) → not b ≡ false → F ≡ functionDomainsIn ws → p ≡ patternWordsIn ws at
-        → r ≡ matches F (map elementIn p) al
+        (F p : List ℕ) (a r : Bool) → a ≡ numbersFit → not a ≡ false → F ≡ functionDomainsIn ws → p ≡ patternWordsIn ws at → r ≡ matches F (map elementIn p) al
         → r ≡ fitsAllocated (policyIn ws) (contextIn ws at) (binding event) (allocationOf al event)
-    unfolding fitsAllocated contextIn policyIn
-    allocated-pattern-decides u g F p a b r f h n f′ h′ n′ x z y = rw (← f, tested-true _ a h n, ← f′, tested-true _ b h′ n′, ← x, ← z, ← y, and-true, and-true)
+    unfolding fitsAllocated allocatedSortsFit contextIn policyIn
+    allocated-pattern-decides F p a r h n x z y = rw (tested-true _ a h n, ← x, ← z, ← y, and-true)
 
     pub static-object : (r : Bool) → length al ≡ 0 → r ≡ fitsStatic (contextIn ws at) → r ≡ contextFitsObject (policyIn ws) (contextIn ws at) (binding event) (allocationOf al event)
     unfolding contextFitsObject

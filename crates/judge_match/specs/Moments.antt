@@ -10,9 +10,9 @@ use Rattle.judge_match.specs.declared.Ids.{Ids}
 use Rattle.judge_match.specs.declared.Event.{Event}
 
 abbrev pub momentOf : List ℕ → Ids → Moment
-momentOf stack ids = record { stack = stack; uid = ids .uid; gid = ids .gid }
+momentOf stack ids = record { stack = stack; uid = ids .uid; gid = ids .gid; namespace = ids .namespace }
 
--- the moment that binds an entry's variables, of which a descriptor looks at uid and gid alone
+-- the moment that binds an entry's variables, of which a descriptor looks at uid, gid and namespace alone
 abbrev pub binding : Event → Moment
 binding event = momentOf [] (event .ids)
 

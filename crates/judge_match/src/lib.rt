@@ -4,22 +4,23 @@ use paper::Access;
 use paper::Operation;
 use table::layout;
 ghost use mathlib.Core.Path.{_≡_};
-ghost use mathlib.Core.List.{map};
+ghost use mathlib.Core.List.{[], map};
 ghost use Prim.Native.Nat.{_+_, _≤_};
 ghost use Rattle.paper.specs.Common.{countUp};
 ghost use Rattle.paper.specs.Table.{entryAt, descriptorAt, policyIn, entryIn, contextIn, grantIn, descriptorIn, sortIn};
-ghost use Rattle.paper.specs.Match.{sortFits, allocatedSortFits, entryMatches, fitsStatic, fitsAllocated, contextFitsObject};
+ghost use Rattle.paper.specs.Match.{sortFits, sortsFit, allocatedSortFits, allocatedSortsFit, sortsAnyone, entryMatches, fitsStatic, fitsAllocated, contextFitsObject};
 ghost use Rattle.paper.specs.Match.{grants, descriptorGrants, someDescriptorGrants};
 ghost use Rattle.table.specs.Reach.{reach};
 ghost use Rattle.judge_match.specs.Moments.{momentOf, binding, allocationOf, Placed};
 
-// The uid and gid of a moment.
+// The uid, gid and namespace of a moment.
 pub struct Ids {
     pub uid: u32,
     pub gid: u32,
+    pub namespace: u32,
 }
 
-// An event besides its stacks: the access, the domains of the running function and of the target, and the uid and gid of both moments.
+// An event besides its stacks: the access, the domains of the running function and of the target, and the numbers of both moments.
 pub struct Event {
     pub access: Access,
     pub subject: u16,
@@ -50,6 +51,51 @@ fn allocated_sort_fits(sort: u16, bound: u32, id: u32) -> bool
     sort_fits(sort, id)
 }
 
+// The sorts of the context at a place fit the numbers of a moment, whatever its stack.
+fn sorts_fit(t: &[u16], at: usize, ids: Ids) -> bool
+    requires { ⌜ at ≤ reach ⌝ }
+    ensures { λ r. ⌜ r ≡ sortsFit (contextIn (now (t .entry)) at) (momentOf [] ids) ⌝ }
+{
+    if !sort_fits(table::word(t, at + layout::UID_AT), ids.uid) {
+        return false;
+    }
+    if !sort_fits(table::word(t, at + layout::GID_AT), ids.gid) {
+        return false;
+    }
+    sort_fits(table::word(t, at + layout::NAMESPACE_AT), ids.namespace)
+}
+
+// Those of an allocation, each against its own.
+fn allocated_sorts_fit(t: &[u16], at: usize, ids: Ids, allocated: Ids) -> bool
+    requires { ⌜ at ≤ reach ⌝ }
+    ensures { λ r. ⌜ r ≡ allocatedSortsFit (contextIn (now (t .entry)) at) (momentOf [] ids) (momentOf [] allocated) ⌝ }
+{
+    let uid = table::word(t, at + layout::UID_AT);
+    if !allocated_sort_fits(uid, ids.uid, allocated.uid) {
+        return false;
+    }
+    let gid = table::word(t, at + layout::GID_AT);
+    if !allocated_sort_fits(gid, ids.gid, allocated.gid) {
+        return false;
+    }
+    let namespace = table::word(t, at + layout::NAMESPACE_AT);
+    allocated_sort_fits(namespace, ids.namespace, allocated.namespace)
+}
+
+// They are all `all`.
+fn sorts_anyone(t: &[u16], at: usize) -> bool
+    requires { ⌜ at ≤ reach ⌝ }
+    ensures { λ r. ⌜ r ≡ sortsAnyone (contextIn (now (t .entry)) at) ⌝ }
+{
+    if table::word(t, at + layout::UID_AT) != layout::ANYONE {
+        return false;
+    }
+    if table::word(t, at + layout::GID_AT) != layout::ANYONE {
+        return false;
+    }
+    table::word(t, at + layout::NAMESPACE_AT) == layout::ANYONE
+}
+
 pub fn entry_matches(t: &[u16], k: usize, event: Event, stack: &[u16]) -> bool
     requires { ⌜ entryAt k ≤ reach ⌝ }
     requires { ⌜ Placed (now t) (now stack) event ⌝ }
@@ -59,10 +105,7 @@ pub fn entry_matches(t: &[u16], k: usize, event: Event, stack: &[u16]) -> bool
     if table::word(t, at + layout::SUBJECT_AT) != event.subject {
         return false;
     }
-    if !sort_fits(table::word(t, at + layout::UID_AT), event.ids.uid) {
-        return false;
-    }
-    if !sort_fits(table::word(t, at + layout::GID_AT), event.ids.gid) {
+    if !sorts_fit(t, at, event.ids) {
         return false;
     }
     judge_pattern::matches_stack(table::functions(t), table::pattern_at(t, at), stack)
@@ -73,10 +116,7 @@ fn fits_static(t: &[u16], at: usize) -> bool
     requires { ⌜ at ≤ reach ⌝ }
     ensures { λ r. ⌜ r ≡ fitsStatic (contextIn (now (t .entry)) at) ⌝ }
 {
-    if table::word(t, at + layout::UID_AT) != layout::ANYONE {
-        return false;
-    }
-    if table::word(t, at + layout::GID_AT) != layout::ANYONE {
+    if !sorts_anyone(t, at) {
         return false;
     }
     judge_pattern::is_all(table::pattern_at(t, at))
@@ -86,12 +126,7 @@ fn fits_allocated(t: &[u16], at: usize, event: Event, allocation: &[u16]) -> boo
     requires { ⌜ at ≤ reach ⌝ }
     ensures { λ r. ⌜ r ≡ fitsAllocated (policyIn (now (t .entry))) (contextIn (now (t .entry)) at) (binding event) (allocationOf (now (allocation .entry)) event) ⌝ }
 {
-    let ids = event.ids;
-    let allocated = event.allocated;
-    if !allocated_sort_fits(table::word(t, at + layout::UID_AT), ids.uid, allocated.uid) {
-        return false;
-    }
-    if !allocated_sort_fits(table::word(t, at + layout::GID_AT), ids.gid, allocated.gid) {
+    if !allocated_sorts_fit(t, at, event.ids, event.allocated) {
         return false;
     }
     judge_pattern::matches_stack(table::functions(t), table::pattern_at(t, at), allocation)

@@ -1,4 +1,4 @@
--- The contexts of a file: patterns of 1 to 16 known elements, and a gid that is `all` or a variable. Over any of the three contexts.
+-- The contexts of a file: patterns of 1 to 16 known elements, and a gid and a namespace that are `all` or a variable. Over any of the three contexts.
 use mathlib.Core.Path.{_≡_, refl, sym, _∙_}
 use mathlib.Core.Bool.{Bool, true, false, cond, not, _||_, false≢true}
 use mathlib.Core.List.{List, [], _∷_, map}
@@ -15,7 +15,8 @@ use Rattle.paper.specs.declared.Value.{Value}
 use Rattle.paper.specs.declared.Value.the-variants.{One, SomeOf}
 use Rattle.paper.specs.Scalars.{isScalar, sortNumber, sortOf}
 use Rattle.paper.specs.Lists.{bracketed, spaced, unspaced, elementsIn, elements, listFault}
-use Rattle.paper.specs.Listing.{subjectName, subjectMembers, subjectOfEntry, executionContext, canRead, canWrite, callContextIn, uidIn, gidIn, objectContextIn, listing, rowAt, bareIsNone, valueFault}
+use Rattle.paper.specs.Listing.{subjectName, subjectMembers, subjectOfEntry, executionContext, canRead, canWrite, callContextIn, uidIn, gidIn, namespaceIn}
+use Rattle.paper.specs.Listing.{objectContextIn, listing, rowAt, bareIsNone, valueFault}
 use Rattle.paper.specs.Page.{Field}
 use Rattle.paper.specs.Entries.{isAtOne, callContexts, defaultAt, meant, valueAt}
 use Rattle.paper.specs.Rules.{longPattern, domainsAt, identifiersAt, elementNames, allKnown, subjectLists, objectLists, namesUnknown}
@@ -67,7 +68,7 @@ pattern-place execution = record { value = refl; block = refl; default = refl; l
 pattern-place reading = record { value = refl; block = refl; default = refl; listed = refl; notSubject = refl; notSubjects = refl; notObjects = refl }
 pattern-place writing = record { value = refl; block = refl; default = refl; listed = refl; notSubject = refl; notSubjects = refl; notObjects = refl }
 
--- and of the places of its `uid` and `gid`
+-- and of the places of its `uid`, `gid` and `namespace`
 pub record KeyPlace (key : ℕ → ℕ) (scalar : Scalar) (c : ℕ) : Type 0 where
   pub value : rowAt (key c) .value ≡ One scalar
   pub block : isEmpty (rowAt (key c) .block) ≡ true
@@ -84,6 +85,12 @@ unfolding rowAt listing defaultAt callContexts anyOf
 gid-place execution = record { value = refl; block = refl; default = refl }
 gid-place reading = record { value = refl; block = refl; default = refl }
 gid-place writing = record { value = refl; block = refl; default = refl }
+
+pub namespace-place : {c : ℕ} → ContextAt c → KeyPlace namespaceIn GidValue c
+unfolding rowAt listing defaultAt callContexts anyOf
+namespace-place execution = record { value = refl; block = refl; default = refl }
+namespace-place reading = record { value = refl; block = refl; default = refl }
+namespace-place writing = record { value = refl; block = refl; default = refl }
 
 -- ---- the value of a `call_context`
 
@@ -190,12 +197,13 @@ module _ (file : List Field) where
         value-holds (callContextIn c) (PatternValue functionNames domainNames) (isGood file) pattern-field fs h
         (λ e. rw (pattern-place at .default) (default-pattern functionNames domainNames))
 
-    gid-value : (fs : List Field) → allOf (isGood file) fs ≡ true → isGidSort (sortOf (valueAt (gidIn c) fs)) ≡ true
-    gid-value fs h =
-        value-holds (gidIn c) (λ v. isGidSort (sortOf v) ≡ true) (isGood file)
-        (λ f g e. let w = key-written (gid-place at) f g e in rw (w .plain) (gid-sort (f .value) (one-right GidValue (f .value) (w .right))))
+    -- the sort at a key that takes what a gid takes
+    gid-value : (key : ℕ → ℕ) → KeyPlace key GidValue c → (fs : List Field) → allOf (isGood file) fs ≡ true → isGidSort (sortOf (valueAt (key c) fs)) ≡ true
+    gid-value key place fs h =
+        value-holds (key c) (λ v. isGidSort (sortOf v) ≡ true) (isGood file)
+        (λ f g e. let w = key-written place f g e in rw (w .plain) (gid-sort (f .value) (one-right GidValue (f .value) (w .right))))
         fs h
-        (λ e. rw (gid-place at .default) default-gid)
+        (λ e. rw (place .default) default-gid)
 
     pub context-proper : (fs : List Field) → allOf (isGood file) fs ≡ true → properContext (length functionNames) (length domainNames) (contextOf functionNames domainNames c fs) ≡ true
     unfolding properContext contextOf
@@ -205,6 +213,8 @@ module _ (file : List Field) where
         rw length-map (both-true _ _ (le-leb _ _ (v .some)) (le-leb _ _ (v .few))) in
         both-true _ _
         (both-true _ _
+        (both-true _ _
         one-to-most
         (all-below functionNames domainNames (elements (valueAt (callContextIn c) fs)) (v .knows)))
-        (gid-value fs h)
+        (gid-value gidIn (gid-place at) fs h))
+        (gid-value namespaceIn (namespace-place at) fs h)

@@ -11,19 +11,19 @@ use Rattle.paper.specs.declared.Scalar.{Scalar}
 use Rattle.paper.specs.declared.Scalar.the-variants.{UidValue, GidValue}
 use Rattle.paper.specs.Scalars.{isScalar, isVariable, sortNumber, sortOf}
 use Rattle.paper.specs.Lists.{elements}
-use Rattle.paper.specs.Listing.{objectName, subjectMembers, executionContext, canRead, canWrite, uidIn, gidIn, objectsIn, objectContextIn}
+use Rattle.paper.specs.Listing.{objectName, subjectMembers, executionContext, canRead, canWrite, uidIn, gidIn, namespaceIn, objectsIn, objectContextIn}
 use Rattle.paper.specs.Page.{Field}
 use Rattle.paper.specs.Entries.{isAtOne, meant, valueAt, fieldsAt, itemsOf, stretchesFrom}
 use Rattle.paper.specs.Rules.{descriptorsOf, domainsAt, identifiersAt, inObjectContexts, isUnboundKey, isUnbound}
 use Rattle.paper.specs.Policy.{every, these, Descriptor, contextOf, grantOf, descriptorOf, accessOf, policyOf}
 use Rattle.laws.proofs.Tests.{both-true, both-left, both-right, either-right, neither-left, neither-right, same-equal}
 use Rattle.laws.proofs.Counting.{allOf-weaker}
-use Rattle.laws_table.specs.Proper.{isBinding, boundIn, properGrant, properDescriptor}
+use Rattle.laws_table.specs.Proper.{isBinding, boundSort, boundIn, properGrant, properDescriptor}
 use Rattle.laws_file.specs.Accepted.{isGood}
 use Rattle.laws_file.proofs.Stretched.{allOf-map, allOf-both, stretches-all, value-holds}
 use Rattle.laws_file.proofs.Members.{members-length}
 use Rattle.laws_file.proofs.Sorts.{uid-variable, gid-variable}
-use Rattle.laws_file.proofs.Contexts.{ContextAt, reading, writing, KeyPlace, uid-place, gid-place, key-written, one-right, context-proper}
+use Rattle.laws_file.proofs.Contexts.{ContextAt, reading, writing, KeyPlace, uid-place, gid-place, namespace-place, key-written, one-right, context-proper}
 
 pub data AccessAt : ℕ → Type 0 where
   reads : AccessAt canRead
@@ -46,7 +46,7 @@ module _ (file : List Field) (a : ℕ) (entry : List Field) where
       go false = rw length-map
 
   -- what holds of an item whose fields pass a test holds of each
-  accesses-all : (test : Field → Bool) (holds : Descriptor → Bool) → ((item : List Field) → allOf test item ≡ true → holds (descriptorOf file a item) ≡ true)
+  pub accesses-all : (test : Field → Bool) (holds : Descriptor → Bool) → ((item : List Field) → allOf test item ≡ true → holds (descriptorOf file a item) ≡ true)
       → allOf test entry ≡ true → allOf holds (accessOf file a entry) ≡ true
   unfolding accessOf itemsOf allOf
   accesses-all test holds one h = go (is "all" (valueAt a entry))
@@ -129,21 +129,32 @@ module _ (file : List Field) {a : ℕ} (at : AccessAt a) (entry : List Field) wh
   abbrev goodIn : Field → Bool
   goodIn f = isGood file f && not (isUnbound entry f)
 
-  uid-bound : (f : Field) → goodIn f ≡ true → (isGood file f && not (isUnboundKey uidIn entry f)) ≡ true
-  unfolding isUnbound
-  uid-bound f h = both-true _ _ (both-left (isGood file f) _ h) (ap not (neither-left (isUnboundKey uidIn entry f) (isUnboundKey gidIn entry f) (not-true _ (both-right (isGood file f) _ h))))
+  -- so none is at a key that is one of those asked for
+  key-bound : (key : ℕ → ℕ) → ((f : Field) → isUnbound entry f ≡ false → isUnboundKey key entry f ≡ false) → (f : Field) → goodIn f ≡ true
+      → (isGood file f && not (isUnboundKey key entry f)) ≡ true
+  key-bound key asked f h = both-true _ _ (both-left (isGood file f) _ h) (ap not (asked f (not-true _ (both-right (isGood file f) _ h))))
 
-  gid-bound : (f : Field) → goodIn f ≡ true → (isGood file f && not (isUnboundKey gidIn entry f)) ≡ true
+  uid-bound : (f : Field) → isUnbound entry f ≡ false → isUnboundKey uidIn entry f ≡ false
   unfolding isUnbound
-  gid-bound f h = both-true _ _ (both-left (isGood file f) _ h) (ap not (neither-right (isUnboundKey uidIn entry f) _ (not-true _ (both-right (isGood file f) _ h))))
+  uid-bound f h = search (neither-left, neither-right) depth 5
+
+  gid-bound : (f : Field) → isUnbound entry f ≡ false → isUnboundKey gidIn entry f ≡ false
+  unfolding isUnbound
+  gid-bound f h = search (neither-left, neither-right) depth 5
+
+  namespace-bound : (f : Field) → isUnbound entry f ≡ false → isUnboundKey namespaceIn entry f ≡ false
+  unfolding isUnbound
+  namespace-bound f h = search (neither-left, neither-right) depth 5
 
   item-bound : (functions domains : List (List ℕ)) (item : List Field) → allOf goodIn item ≡ true
       → boundIn (contextOf functions domains executionContext entry) (descriptorOf file a item .context) ≡ true
-  unfolding boundIn contextOf descriptorOf
+  unfolding boundIn boundSort contextOf descriptorOf
   item-bound functions domains item h =
       both-true _ _
-      (bound-value file entry uidIn UidValue uid-variable at (uid-place (context-of at)) item (allOf-weaker _ _ uid-bound item h))
-      (bound-value file entry gidIn GidValue gid-variable at (gid-place (context-of at)) item (allOf-weaker _ _ gid-bound item h))
+      (both-true _ _
+      (bound-value file entry uidIn UidValue uid-variable at (uid-place (context-of at)) item (allOf-weaker _ _ (key-bound uidIn uid-bound) item h))
+      (bound-value file entry gidIn GidValue gid-variable at (gid-place (context-of at)) item (allOf-weaker _ _ (key-bound gidIn gid-bound) item h)))
+      (bound-value file entry namespaceIn GidValue gid-variable at (namespace-place (context-of at)) item (allOf-weaker _ _ (key-bound namespaceIn namespace-bound) item h))
 
   pub descriptors-bound : (functions domains : List (List ℕ)) → allOf (isGood file) entry ≡ true → allOf (λ f. not (isUnbound entry f)) entry ≡ true
       → allOf (λ d. boundIn (contextOf functions domains executionContext entry) (d .context)) (accessOf file a entry) ≡ true

@@ -11,10 +11,10 @@ use Rattle.paper.specs.declared.Scalar.the-variants.{PatternElement}
 use Rattle.paper.specs.Common.{bytes, isEmpty, allOf, anyOf, same, cut, onPiece}
 use Rattle.paper.specs.Scalars.{isVariable, isScalar, sortOf, sortNumber}
 use Rattle.paper.specs.Lists.{bracketed, spaced, unspaced, elementsIn, elements, listFault}
-use Rattle.paper.specs.Listing.{subjectOfEntry, executionContext, callContextIn, uidIn, gidIn, principal, listing, rowAt, valueFault}
+use Rattle.paper.specs.Listing.{subjectOfEntry, executionContext, callContextIn, uidIn, gidIn, namespaceIn, principal, listing, rowAt, valueFault}
 use Rattle.paper.specs.Page.{Field}
 use Rattle.paper.specs.Entries.{isAt, isAtOne, callContexts, defaultAt, meant, valueAt, upToNext, stretchesFrom, entriesOf, lineOfEntry}
-use Rattle.paper.specs.Rules.{earliest, firstWith, inObjectContexts, isUnboundKey, isUnbound, unboundVariable, sameSort, samePrincipal, twinAfter, twinPrincipal}
+use Rattle.paper.specs.Rules.{earliest, firstWith, inObjectContexts, isUnboundKey, isUnbound, unboundVariable, sameSort, sameSortAt, samePrincipal, twinAfter, twinPrincipal}
 use Rattle.paper.specs.Table.{sortIn}
 use Rattle.laws.proofs.Tests.{both-true, both-left, both-right, either-of, either-left, either-right, same-refl, same-equal}
 use Rattle.laws_table.proofs.Contexts.{sort-read}
@@ -54,14 +54,24 @@ unbound-tells : (entry before : List Field) (f : Field) → isUnbound entry f �
 unfolding isUnbound
 unbound-tells entry before f e =
     ⊎-elim
-    (λ (p : isUnboundKey uidIn entry f ≡ true). rules.Unbound.uid (key-tells uidIn entry f p))
-    (λ (p : isUnboundKey gidIn entry f ≡ true). rules.Unbound.gid (key-tells gidIn entry f p))
-    (either-of (isUnboundKey uidIn entry f) (isUnboundKey gidIn entry f) e)
+    (λ (p : (isUnboundKey uidIn entry f || isUnboundKey gidIn entry f) ≡ true).
+    ⊎-elim
+    (λ (q : isUnboundKey uidIn entry f ≡ true). rules.Unbound.uid (key-tells uidIn entry f q))
+    (λ (q : isUnboundKey gidIn entry f ≡ true). rules.Unbound.gid (key-tells gidIn entry f q))
+    (either-of (isUnboundKey uidIn entry f) (isUnboundKey gidIn entry f) p))
+    (λ (p : isUnboundKey namespaceIn entry f ≡ true). rules.Unbound.namespace (key-tells namespaceIn entry f p))
+    (either-of (isUnboundKey uidIn entry f || isUnboundKey gidIn entry f) (isUnboundKey namespaceIn entry f) e)
 
 unbound-told : (entry before : List Field) (f : Field) → Unbound entry before f → isUnbound entry f ≡ true
 unfolding isUnbound
-unbound-told entry before f (rules.Unbound.uid u) = either-left (isUnboundKey uidIn entry f) (isUnboundKey gidIn entry f) (key-told uidIn entry f u)
-unbound-told entry before f (rules.Unbound.gid u) = either-right (isUnboundKey uidIn entry f) (isUnboundKey gidIn entry f) (key-told gidIn entry f u)
+unbound-told entry before f (rules.Unbound.uid u) =
+    either-left (isUnboundKey uidIn entry f || isUnboundKey gidIn entry f) (isUnboundKey namespaceIn entry f)
+    (either-left (isUnboundKey uidIn entry f) (isUnboundKey gidIn entry f) (key-told uidIn entry f u))
+unbound-told entry before f (rules.Unbound.gid u) =
+    either-left (isUnboundKey uidIn entry f || isUnboundKey gidIn entry f) (isUnboundKey namespaceIn entry f)
+    (either-right (isUnboundKey uidIn entry f) (isUnboundKey gidIn entry f) (key-told gidIn entry f u))
+unbound-told entry before f (rules.Unbound.namespace u) =
+    either-right (isUnboundKey uidIn entry f || isUnboundKey gidIn entry f) (isUnboundKey namespaceIn entry f) (key-told namespaceIn entry f u)
 
 -- ---- 10: all of them
 
@@ -101,6 +111,7 @@ pub record SameWords (a b : List Field) : Type 0 where
   pub pattern : valueAt (callContextIn executionContext) a ≡ valueAt (callContextIn executionContext) b
   pub uid : sortOf (valueAt (uidIn executionContext) a) ≡ sortOf (valueAt (uidIn executionContext) b)
   pub gid : sortOf (valueAt (gidIn executionContext) a) ≡ sortOf (valueAt (gidIn executionContext) b)
+  pub namespace : sortOf (valueAt (namespaceIn executionContext) a) ≡ sortOf (valueAt (namespaceIn executionContext) b)
 
 sort-tells : (v w : List ℕ) → sameSort v w ≡ true → sortOf v ≡ sortOf w
 unfolding sameSort
@@ -113,26 +124,25 @@ sort-told v w e = eq-eqb (sortNumber (sortOf v)) (sortNumber (sortOf w)) (ap sor
 same-text : (v w : List ℕ) → v ≡ w → same v w ≡ true
 same-text v w e = rw e (same-refl w)
 
-all-four : (p q r s : Bool) → (p && q && r && s) ≡ true → (p ≡ true) × (q ≡ true) × (r ≡ true) × (s ≡ true)
-all-four p q r s e =
-    let three : (p && q && r) ≡ true = both-left (p && q && r) s e in
-    let two : (p && q) ≡ true = both-left (p && q) r three in
-    (both-left p q two, both-right p q two, both-right (p && q) r three, both-right (p && q && r) s e)
-
 words-tell : (a b : List Field) → samePrincipal a b ≡ true → SameWords a b
-unfolding samePrincipal
+unfolding samePrincipal sameSortAt
 words-tell a b e =
-    let r =
-    all-four (same (valueAt subjectOfEntry a) (valueAt subjectOfEntry b))
-    (same (valueAt (callContextIn executionContext) a) (valueAt (callContextIn executionContext) b))
-    (sameSort (valueAt (uidIn executionContext) a) (valueAt (uidIn executionContext) b))
-    (sameSort (valueAt (gidIn executionContext) a) (valueAt (gidIn executionContext) b)) e in
-    record { subject = same-equal _ _ (r .0); pattern = same-equal _ _ (r .1); uid = sort-tells _ _ (r .2); gid = sort-tells _ _ (r .3) }
+    record {
+      subject = same-equal _ _ (search (both-left, both-right) depth 7);
+      pattern = same-equal _ _ (search (both-left, both-right) depth 7);
+      uid = sort-tells _ _ (search (both-left, both-right) depth 7);
+      gid = sort-tells _ _ (search (both-left, both-right) depth 7);
+      namespace = sort-tells _ _ (search (both-left, both-right) depth 7);
+    }
 
 words-told : (a b : List Field) → SameWords a b → samePrincipal a b ≡ true
-unfolding samePrincipal
+unfolding samePrincipal sameSortAt
 words-told a b s =
-    both-true _ _ (both-true _ _ (both-true _ _ (same-text _ _ (s .subject)) (same-text _ _ (s .pattern))) (sort-told _ _ (s .uid))) (sort-told _ _ (s .gid))
+    both-true _ _
+    (both-true _ _
+    (both-true _ _ (both-true _ _ (same-text _ _ (s .subject)) (same-text _ _ (s .pattern))) (sort-told _ _ (s .uid)))
+    (sort-told _ _ (s .gid)))
+    (sort-told _ _ (s .namespace))
 
 -- ---- 11: an entry before has the same words
 
@@ -243,7 +253,7 @@ module _ (fs : List Field) (a : Ascending (λ f. f .line) 1 fs) (right : allOf i
   to : (before : List (List Field)) (e : List Field) (behind : List (List Field)) → entriesOf fs ≡ before ++ (e ∷ behind) → TwinWords before e → HasTwin before e
   to before e behind splits w =
       let s = w .alike in
-      record { twin = w .twin; stands = w .stands; alike = record { subject = s .subject; pattern = ap elements (s .pattern); uid = s .uid; gid = s .gid } }
+      record { twin = w .twin; stands = w .stands; alike = record { subject = s .subject; pattern = ap elements (s .pattern); uid = s .uid; gid = s .gid; namespace = s .namespace } }
 
   from : (before : List (List Field)) (e : List Field) (behind : List (List Field)) → entriesOf fs ≡ before ++ (e ∷ behind) → HasTwin before e → TwinWords before e
   from before e behind splits w =
@@ -251,7 +261,7 @@ module _ (fs : List Field) (a : Ascending (λ f. f .line) 1 fs) (right : allOf i
       let own : Has (entriesOf fs) e = record { front = before; behind = behind; splits = splits } in
       let other : Has (entriesOf fs) (w .twin) = rw splits (has-left (e ∷ behind) {xs = before} (w .stands)) in
       let text = same-elements PatternElement PatternElement _ _ (entry-right e own) (entry-right (w .twin) other) (s .pattern) in
-      record { twin = w .twin; stands = w .stands; alike = record { subject = s .subject; pattern = text; uid = s .uid; gid = s .gid } }
+      record { twin = w .twin; stands = w .stands; alike = record { subject = s .subject; pattern = text; uid = s .uid; gid = s .gid; namespace = s .namespace } }
 
   pub twin-principal : Finds (TwinPrincipal fs) (twinPrincipal fs)
   unfolding twinPrincipal

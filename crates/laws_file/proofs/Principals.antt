@@ -11,10 +11,10 @@ use Rattle.paper.specs.declared.Scalar.the-variants.{PatternElement, DomainName
 use Rattle.paper.specs.declared.Value.the-variants.{One}
 use Rattle.paper.specs.Scalars.{sortOf, sortNumber}
 use Rattle.paper.specs.Lists.{elements}
-use Rattle.paper.specs.Listing.{subjectName, subjectMembers, subjectOfEntry, executionContext, callContextIn, uidIn, gidIn, listing, rowAt, bareIsNone}
+use Rattle.paper.specs.Listing.{subjectName, subjectMembers, subjectOfEntry, executionContext, callContextIn, uidIn, gidIn, namespaceIn, listing, rowAt, bareIsNone}
 use Rattle.paper.specs.Page.{Field}
 use Rattle.paper.specs.Entries.{isAt, meant, valueAt}
-use Rattle.paper.specs.Rules.{domainsAt, identifiersAt, namesUnknown, isUnbound, sameSort, samePrincipal}
+use Rattle.paper.specs.Rules.{domainsAt, identifiersAt, namesUnknown, isUnbound, sameSort, sameSortAt, samePrincipal}
 use Rattle.paper.specs.Policy.{contextOf, entryOf}
 use Rattle.laws.proofs.Tests.{both-true, both-left, both-right, same-refl, same-equal}
 use Rattle.laws_page.proofs.ListText.{same-elements}
@@ -74,7 +74,7 @@ module _ (file : List Field) where
 
   same-principal : length (identifiersAt subjectMembers file) ≤ mostMembers → (a b : List Field) → isGoodEntry file a ≡ true → isGoodEntry file b ≡ true
       → sharePrincipal (entryOf file a) (entryOf file b) ≡ true → samePrincipal b a ≡ true
-  unfolding sharePrincipal principalOf entryOf contextOf samePrincipal sameSort
+  unfolding sharePrincipal principalOf entryOf contextOf samePrincipal sameSortAt sameSort
   same-principal few a b p q h =
       let ga = good-entry file a p in
       let gb = good-entry file b q in
@@ -87,7 +87,8 @@ module _ (file : List Field) where
       let c : valueAt (callContextIn executionContext) a ≡ valueAt (callContextIn executionContext) b = same-elements PatternElement PatternElement _ _ (va .right) (vb .right) xs in
       let u : sortNumber (sortOf (valueAt (uidIn executionContext) a)) ≡ sortNumber (sortOf (valueAt (uidIn executionContext) b)) = cc in
       let g : sortNumber (sortOf (valueAt (gidIn executionContext) a)) ≡ sortNumber (sortOf (valueAt (gidIn executionContext) b)) = cc in
-      rw (s, c, same-refl (valueAt subjectOfEntry b), same-refl (valueAt (callContextIn executionContext) b), eq-eqb _ _ (sym u), eq-eqb _ _ (sym g))
+      let n : sortNumber (sortOf (valueAt (namespaceIn executionContext) a)) ≡ sortNumber (sortOf (valueAt (namespaceIn executionContext) b)) = cc in
+      rw (s, c, same-refl (valueAt subjectOfEntry b), same-refl (valueAt (callContextIn executionContext) b), eq-eqb _ _ (sym u), eq-eqb _ _ (sym g), eq-eqb _ _ (sym n))
 
   -- no two entries of the policy have one principal
   pub principals-apart : length (identifiersAt subjectMembers file) ≤ mostMembers → (es : List (List Field)) → allOf (isGoodEntry file) es ≡ true

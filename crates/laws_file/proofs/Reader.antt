@@ -68,7 +68,7 @@ accepted-file t table h = go (ltb (length table) tableWords) refl (fileOf t) ref
 
 clear-exactly : (p : Policy) (old new : List ℕ) (r : Report) → Says p old new r → (r ≡ Clear) ↔ ((i j : ℕ) → i < j → j < length (p .entries) → NeverBoth p i j)
 clear-exactly p old new Clear h = (λ e. h .1, λ k. refl)
-clear-exactly p old new (Clash lower higher depth uid gid) h =
+clear-exactly p old new (Clash lower higher depth uid gid namespace) h =
     (λ e. absurd (let z : _≡_ {A = ℕ} 0 1 = cc in omega arith), λ never. absurd (never lower higher (h .ordered) (h .listed) _ (h .both)))
 clear-exactly p old new (Unreported number) h = absurd h
 

@@ -9,7 +9,7 @@ use Rattle.paper.specs.Limits.{mostDomains, mostMembers, mostEntries, mostEleme
 use Rattle.paper.specs.Text.{noLine}
 use Rattle.paper.specs.Scalars.{isVariable, sortOf}
 use Rattle.paper.specs.Lists.{elements}
-use Rattle.paper.specs.Listing.{objectName, objectMembers, subjectName, subjectMembers, principal, subjectOfEntry, executionContext, callContextIn, uidIn, gidIn}
+use Rattle.paper.specs.Listing.{objectName, objectMembers, subjectName, subjectMembers, principal, subjectOfEntry, executionContext, callContextIn, uidIn, gidIn, namespaceIn}
 use Rattle.paper.specs.Page.{Field}
 use Rattle.paper.specs.Entries.{isAtOne, callContexts, valueAt, entriesOf, lineOfEntry}
 use Rattle.paper.specs.Rules.{oneAt, membersAt, descriptorsIn, domainNamed, membersNamed, subjectLists, objectLists, domainsAt, identifiersAt, inObjectContexts}
@@ -126,10 +126,11 @@ pub record UnboundKey (key : ℕ → ℕ) (entry : List Field) (f : Field) : Typ
   pub holds-variable : isVariable (f .value) ≡ true
   pub another : f .value ≡ valueAt (key executionContext) entry → ⊥
 
--- the two keys that can hold a variable
+-- the keys that can hold a variable
 pub data Unbound (entry before : List Field) (f : Field) : Type 0 where
   uid : UnboundKey uidIn entry f → Unbound entry before f
   gid : UnboundKey gidIn entry f → Unbound entry before f
+  namespace : UnboundKey namespaceIn entry f → Unbound entry before f
 
 -- on a line of one of the entries
 pub record UnboundVariable (fs : List Field) (m : ℕ) : Type 0 where
@@ -139,12 +140,13 @@ pub record UnboundVariable (fs : List Field) (m : ℕ) : Type 0 where
 
 -- ---- 11: "two entries with the same principal"; "for 11 the later entry's `principal` line"
 
--- "Principals are the same when subject and pattern elements are equal and uid and gid are of the same sort (two variables are the same sort)."
+-- "Principals are the same when subject and pattern elements are equal and uid and gid are of the same sort (two variables are the same sort)."; and namespace (document 02 g)
 pub record SamePrincipal (a b : List Field) : Type 0 where
   pub subject : valueAt subjectOfEntry a ≡ valueAt subjectOfEntry b
   pub pattern : elements (valueAt (callContextIn executionContext) a) ≡ elements (valueAt (callContextIn executionContext) b)
   pub uid : sortOf (valueAt (uidIn executionContext) a) ≡ sortOf (valueAt (uidIn executionContext) b)
   pub gid : sortOf (valueAt (gidIn executionContext) a) ≡ sortOf (valueAt (gidIn executionContext) b)
+  pub namespace : sortOf (valueAt (namespaceIn executionContext) a) ≡ sortOf (valueAt (namespaceIn executionContext) b)
 
 -- an entry before has the principal of this one
 pub record HasTwin (before : List (List Field)) (entry : List Field) : Type 0 where

@@ -5,7 +5,7 @@ use mathlib.Core.Bool.{Bool, true, false, cond, not, _&&_, _||_, false≢true}
 use Prim.Native.Nat.{ℕ, _+_, _≤_}
 use native.Mathlib.Omega.{arith}
 use Rattle.paper.specs.Common.{bytes, isEmpty, allOf, anyOf}
-use Rattle.paper.specs.Listing.{listing, rowAt, bareIsNone, principal, subjectOfEntry}
+use Rattle.paper.specs.Listing.{listing, rowAt, bareIsNone, principal, subjectOfEntry, executionContext, canCall, canReturn, canRead, canWrite}
 use Rattle.paper.specs.Page.{Field}
 use Rattle.paper.specs.Entries.{isAt, defaultAt, meant, upToNext, stretchesFrom, entriesOf, itemsOf}
 use Rattle.laws.proofs.Tests.{both-true, both-left, both-right}
@@ -77,7 +77,8 @@ module _ (test : Field → Bool) (q : Passes test) where
       more (unwritten c []) _ (q .bare c (λ (z : c ≡ 9). omega arith))
       (more (valueField (c + 1) e) _ (other-passes (c + 1) e s (omega arith))
       (more (valueField (c + 2) e) _ (other-passes (c + 2) e s (omega arith))
-      (more (valueField (c + 3) e) [] (other-passes (c + 3) e s (omega arith)) last)))
+      (more (valueField (c + 3) e) _ (other-passes (c + 3) e s (omega arith))
+      (more (valueField (c + 4) e) [] (other-passes (c + 4) e s (omega arith)) last))))
 
   item-passes : (a : ℕ) (i : List Field) → 10 ≤ a → allOf (both test) i ≡ true → allOf test (itemFields a i) ≡ true
   unfolding itemFields
@@ -98,12 +99,13 @@ module _ (test : Field → Bool) (q : Passes test) where
   pub entry-passes : (e : List Field) → allOf (both test) e ≡ true → anyOf (isAt subjectOfEntry) e ≡ true → allOf test (entryFields e) ≡ true
   unfolding entryFields entryRest
   entry-passes e s said =
-      more (unwritten 8 []) _ (q .bare 8 (λ (z : 8 ≡ 9). omega arith))
-      (more (valueField 9 e) _ (value-passes 9 e s (λ z. said))
-      (allOf-append test (contextFields 10 e) _ (context-passes 10 e s (omega arith))
-      (more (valueField 14 e) _ (other-passes 14 e s (omega arith))
-      (more (valueField 15 e) _ (other-passes 15 e s (omega arith))
-      (allOf-append test (accessFields 16 e) (accessFields 22 e) (access-passes 16 e (omega arith) s) (access-passes 22 e (omega arith) s))))))
+      more (unwritten principal []) _ (q .bare principal (λ (z : principal ≡ subjectOfEntry). omega arith))
+      (more (valueField subjectOfEntry e) _ (value-passes subjectOfEntry e s (λ z. said))
+      (allOf-append test (contextFields executionContext e) _ (context-passes executionContext e s (omega arith))
+      (more (valueField canCall e) _ (other-passes canCall e s (omega arith))
+      (more (valueField canReturn e) _ (other-passes canReturn e s (omega arith))
+      (allOf-append test (accessFields canRead e) (accessFields canWrite e) (access-passes canRead e (omega arith) s)
+      (access-passes canWrite e (omega arith) s))))))
 
   said-all : (fs : List Field) → allOf test (map says fs) ≡ allOf test fs
   unfolding allOf

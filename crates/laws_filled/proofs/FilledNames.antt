@@ -1,7 +1,7 @@
 -- 7, 8 and 10 of the filled text: the maps name what they named, and what is put in names nothing that is unknown and no variable.
 use mathlib.Core.Path.{_≡_, refl, sym, ap, _∙_}
 use mathlib.Core.List.{List, [], _∷_, _++_, map, flatMap, append-nil}
-use mathlib.Core.Bool.{Bool, true, false, cond, not, _&&_, _||_}
+use mathlib.Core.Bool.{Bool, true, false, cond, not, _&&_}
 use Prim.Native.Nat.{ℕ, _≤_}
 use native.Mathlib.Omega.{arith}
 use lib.Dec.{eqb, leb}
@@ -9,7 +9,7 @@ use borrow.Author.Tests.{eqb-true, ne-eqb, leb-true, not-true}
 use Rattle.paper.proofs.Computing.{computing}
 use Rattle.paper.specs.Common.{bytes, isEmpty, allOf, anyOf, same}
 use Rattle.paper.specs.Scalars.{isVariable}
-use Rattle.paper.specs.Listing.{principal, objectName, subjectName, subjectMembers, subjectOfEntry, executionContext, uidIn, gidIn}
+use Rattle.paper.specs.Listing.{principal, objectName, subjectName, subjectMembers, subjectOfEntry, executionContext, uidIn, gidIn, namespaceIn}
 use Rattle.paper.specs.Page.{Field}
 use Rattle.paper.specs.Entries.{isAt, isAtOne, valueAt, upToNext, stretchesFrom, entriesOf}
 use Rattle.paper.specs.Rules.{earlier, earliest, firstWith, repeats, repeated, domainNamed, membersNamed, domainsAt, identifiersAt, elementNames, namesUnknown}
@@ -140,23 +140,23 @@ module _ (fs : List Field) (o : inListingOrder 0 false fs ≡ true) where
 
 -- ---- 10
 
-no-variable : (a x b y : Bool) → not ((a && false && x) || (b && false && y)) ≡ true
-no-variable true x true y = refl
-no-variable true x false y = refl
-no-variable false x true y = refl
-no-variable false x false y = refl
+no-variable : (a b : Bool) → (a && false && b) ≡ false
+no-variable true b = refl
+no-variable false b = refl
 
 -- all variables of an entry are bound
 unfoldable allBound : List Field → Bool
 allBound e = allOf (λ f. not (isUnbound e f)) e
 
 module _ (entry : List Field) where
+  key-bound : (key : ℕ → ℕ) (p : ℕ) (v : List ℕ) → isVariable v ≡ false → isUnboundKey key entry (unwritten p v) ≡ false
+  unfolding isUnboundKey isAtOne unwritten
+  key-bound key p v e =
+      rw e (no-variable (anyOf (eqb p) (inObjectContexts key)) (not (same v (valueAt (key executionContext) entry))))
+
   nothing-bound : (p : ℕ) (v : List ℕ) → isVariable v ≡ false → not (isUnbound entry (unwritten p v)) ≡ true
-  unfolding isUnbound isUnboundKey isAtOne unwritten
-  nothing-bound p v e =
-      rw e
-      (no-variable (anyOf (eqb p) (inObjectContexts uidIn)) (not (same v (valueAt (uidIn executionContext) entry)))
-      (anyOf (eqb p) (inObjectContexts gidIn)) (not (same v (valueAt (gidIn executionContext) entry))))
+  unfolding isUnbound
+  nothing-bound p v e = rw (key-bound uidIn p v e, key-bound gidIn p v e, key-bound namespaceIn p v e) refl
 
   bound-passes : Passes (λ f. not (isUnbound entry f))
   unfolding computing says unwritten
@@ -171,7 +171,7 @@ module _ (entry : List Field) where
 
   unbound-same : (f : Field) → isUnbound (entryFields entry) f ≡ isUnbound entry f
   unfolding isUnbound isUnboundKey
-  unbound-same f = let v = front-values entry in rw (v .uid, v .gid) refl
+  unbound-same f = let v = front-values entry in rw (v .uid, v .gid, v .namespace) refl
 
   entry-bound : (allBound entry && allOf isFilled entry && anyOf (isAt subjectOfEntry) entry) ≡ true → allBound (entryFields entry) ≡ true
   unfolding allBound both
@@ -185,7 +185,8 @@ module _ (entry : List Field) where
 
 unbound-said : (e : List Field) (f : Field) → isUnbound (map says e) (says f) ≡ isUnbound e f
 unfolding isUnbound isUnboundKey isAtOne says unwritten
-unbound-said e f = rw (value-says (uidIn executionContext) e, value-says (gidIn executionContext) e) refl
+unbound-said e f =
+    rw (value-says (uidIn executionContext) e, value-says (gidIn executionContext) e, value-says (namespaceIn executionContext) e) refl
 
 bound-said : (e gs : List Field) → allOf (λ f. not (isUnbound (map says e) f)) (map says gs) ≡ allOf (λ f. not (isUnbound e f)) gs
 unfolding allOf

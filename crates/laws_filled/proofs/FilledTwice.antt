@@ -5,7 +5,7 @@ use mathlib.Core.Bool.{true, false, _&&_}
 use Prim.Native.Nat.{ℕ}
 use lib.ListN.{length, length-map}
 use Rattle.paper.specs.Listing.{principal, subjectOfEntry, executionContext, canCall, canReturn, canRead, canWrite, callContextIn, uidIn, gidIn}
-use Rattle.paper.specs.Listing.{objectsIn, objectContextIn}
+use Rattle.paper.specs.Listing.{namespaceIn, objectsIn, objectContextIn}
 use Rattle.paper.specs.Page.{Field, fields, pageOf}
 use Rattle.paper.specs.Entries.{valueAt, upToNext, stretchesFrom, entriesOf, itemsOf}
 use Rattle.paper.specs.Filled.{writtenLine, valueLine, contextText, itemText, accessText, entryText, filledText}
@@ -14,8 +14,8 @@ use Rattle.laws_page.specs.Right.{inListingOrder}
 use Rattle.laws_file.proofs.EachRule.{page-in-order}
 use Rattle.laws_filled.specs.Fields.{unwritten, itemFields, entryFields, written, filledFields}
 use Rattle.laws_filled.proofs.Says.{says, filled-same, value-says, next-says, stretches-say, map-same}
-use Rattle.laws_filled.proofs.SamePolicy.{bareAbove, item-objects, item-call, item-uid, item-gid, front-values, AccessAgain, reads-again}
-use Rattle.laws_filled.proofs.SamePolicy.{writes-again, entries-written}
+use Rattle.laws_filled.proofs.SamePolicy.{bareAbove, item-objects, item-call, item-uid, item-gid, item-namespace, front-values, AccessAgain}
+use Rattle.laws_filled.proofs.SamePolicy.{reads-again, writes-again, entries-written}
 use Rattle.laws_filled.proofs.FilledPolicy.{all-bare, map-where}
 use Rattle.laws_filled.proofs.FilledNames.{next-written}
 
@@ -38,15 +38,19 @@ access-from a e d v i =
 
 -- ---- lines and starts do not count
 
-item-text-says : (a : ℕ) (i : List Field) → itemText a (map says i) ≡ itemText a i
-unfolding itemText contextText valueLine
-item-text-says a i =
+context-text-says : (c : ℕ) (fs : List Field) → contextText c (map says fs) ≡ contextText c fs
+unfolding contextText valueLine
+context-text-says c fs =
     rw (
-      value-says (objectsIn a) i,
-      value-says (callContextIn (objectContextIn a)) i,
-      value-says (uidIn (objectContextIn a)) i,
-      value-says (gidIn (objectContextIn a)) i,
+      value-says (callContextIn c) fs,
+      value-says (uidIn c) fs,
+      value-says (gidIn c) fs,
+      value-says (namespaceIn c) fs,
     ) refl
+
+item-text-says : (a : ℕ) (i : List Field) → itemText a (map says i) ≡ itemText a i
+unfolding itemText valueLine
+item-text-says a i = rw (value-says (objectsIn a) i, context-text-says (objectContextIn a) i) refl
 
 items-say : (a : ℕ) (e : List Field) → map (itemText a) (itemsOf a (map says e)) ≡ map (itemText a) (itemsOf a e)
 unfolding itemsOf
@@ -56,13 +60,11 @@ access-text-says : (a : ℕ) (e : List Field) → accessText a (map says e) ≡ 
 access-text-says a e = access-from a (map says e) e (value-says a e) (items-say a e)
 
 entry-text-says : (e : List Field) → entryText (map says e) ≡ entryText e
-unfolding entryText contextText valueLine
+unfolding entryText valueLine
 entry-text-says e =
     rw (
       value-says subjectOfEntry e,
-      value-says (callContextIn executionContext) e,
-      value-says (uidIn executionContext) e,
-      value-says (gidIn executionContext) e,
+      context-text-says executionContext e,
       value-says canCall e,
       value-says canReturn e,
       access-text-says canRead e,
@@ -90,7 +92,7 @@ text-says fs =
 
 item-text-again : (a : ℕ) (i t : List Field) → itemText a (itemFields a i ++ t) ≡ itemText a i
 unfolding itemText contextText valueLine
-item-text-again a i t = rw (item-objects a i t, item-call a i t, item-uid a i t, item-gid a i t) refl
+item-text-again a i t = rw (item-objects a i t, item-call a i t, item-uid a i t, item-gid a i t, item-namespace a i t) refl
 
 access-text-again : (a : ℕ) (e : List Field) → AccessAgain (itemText a) e a → accessText a (entryFields e) ≡ accessText a e
 access-text-again a e h = access-from a (entryFields e) e (h .value) (h .items)
@@ -102,7 +104,7 @@ entry-text-again e h =
     let reads = access-text-again canRead e (reads-again e (itemText canRead) (item-text-again canRead) (both-left (bareAbove canRead e) _ h)) in
     let writes = access-text-again canWrite e
     (writes-again e (itemText canWrite) (item-text-again canWrite) (both-right (bareAbove canRead e) _ h)) in
-    rw (v .subject, v .call-context, v .uid, v .gid, v .call, v .return, reads, writes) refl
+    rw (v .subject, v .call-context, v .uid, v .gid, v .namespace, v .call, v .return, reads, writes) refl
 
 text-written : (fs : List Field) → inListingOrder 0 false fs ≡ true → filledText (written fs) ≡ filledText fs
 unfolding filledText

@@ -7,10 +7,10 @@ use native.Mathlib.Omega.{arith}
 use lib.Dec.{leb}
 use borrow.Author.Tests.{leb-true, not-true}
 use Rattle.paper.specs.Common.{allOf, anyOf}
-use Rattle.paper.specs.Listing.{principal, subjectOfEntry, executionContext, callContextIn, uidIn, gidIn}
+use Rattle.paper.specs.Listing.{principal, subjectOfEntry, executionContext, callContextIn, uidIn, gidIn, namespaceIn}
 use Rattle.paper.specs.Page.{Field, fields, pageOf}
 use Rattle.paper.specs.Entries.{stretchesFrom, entriesOf, lineOfEntry}
-use Rattle.paper.specs.Rules.{samePrincipal, twinAfter, twinPrincipal}
+use Rattle.paper.specs.Rules.{sameSortAt, samePrincipal, twinAfter, twinPrincipal}
 use Rattle.laws.proofs.Tests.{both-left, both-right}
 use Rattle.laws_file.proofs.Kept.{entries-numbered}
 use Rattle.laws_file.proofs.EachRule.{page-numbered}
@@ -52,6 +52,10 @@ module _ (h : List Field → List Field) (keeps : (a b : List Field) → samePri
   twins-kept seen [] = refl
   twins-kept seen (e ∷ es) = rw (any-kept e seen, twins-kept (e ∷ seen) es) refl
 
+says-sort : (key : ℕ → ℕ) (a b : List Field) → sameSortAt key (map says a) (map says b) ≡ sameSortAt key a b
+unfolding sameSortAt
+says-sort key a b = rw (value-says (key executionContext) a, value-says (key executionContext) b) refl
+
 pub says-principal : (a b : List Field) → samePrincipal (map says a) (map says b) ≡ samePrincipal a b
 unfolding samePrincipal
 says-principal a b =
@@ -60,18 +64,17 @@ says-principal a b =
       value-says subjectOfEntry b,
       value-says (callContextIn executionContext) a,
       value-says (callContextIn executionContext) b,
-      value-says (uidIn executionContext) a,
-      value-says (uidIn executionContext) b,
-      value-says (gidIn executionContext) a,
-      value-says (gidIn executionContext) b,
+      says-sort uidIn a b,
+      says-sort gidIn a b,
+      says-sort namespaceIn a b,
     ) refl
 
 filled-principal : (a b : List Field) → samePrincipal (entryFields a) (entryFields b) ≡ samePrincipal a b
-unfolding samePrincipal
+unfolding samePrincipal sameSortAt
 filled-principal a b =
     let v = front-values a in
     let w = front-values b in
-    rw (v .subject, w .subject, v .call-context, w .call-context, v .uid, w .uid, v .gid, w .gid) refl
+    rw (v .subject, w .subject, v .call-context, w .call-context, v .uid, w .uid, v .gid, w .gid, v .namespace, w .namespace) refl
 
 said-twins : (fs : List Field) → noTwins [] (entriesOf (map says fs)) ≡ noTwins [] (entriesOf fs)
 unfolding entriesOf

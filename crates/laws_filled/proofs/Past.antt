@@ -6,6 +6,7 @@ use Prim.Native.Nat.{ℕ, _+_, _≤_}
 use native.Mathlib.Omega.{arith}
 use borrow.Author.Tests.{ne-eqb, eq-eqb, not-true}
 use Rattle.paper.specs.Common.{isEmpty, allOf}
+use Rattle.paper.specs.Listing.{subjectOfEntry, executionContext, canCall, canReturn, canRead, canWrite}
 use Rattle.paper.specs.Page.{Field}
 use Rattle.paper.specs.Entries.{isAt, meant, valueAt, fieldsAt, upToNext, stretchesFrom, itemsOf}
 use Rattle.laws.proofs.Tests.{both-true, both-left, both-right}
@@ -84,23 +85,24 @@ module _ (p : ℕ) where
 
   -- ---- the fields of a context, of an item and of an entry
 
-  pub context-none : (c : ℕ) (e : List Field) → ((q : ℕ) → c ≤ q → q ≤ c + 3 → q ≡ p → ⊥) → noneAt p (contextFields c e) ≡ true
+  pub context-none : (c : ℕ) (e : List Field) → ((q : ℕ) → c ≤ q → q ≤ c + 4 → q ≡ p → ⊥) → noneAt p (contextFields c e) ≡ true
   unfolding contextFields
   context-none c e n =
       none-bare c _ (n c (omega arith) (omega arith))
       (none-value (c + 1) e _ (n (c + 1) (omega arith) (omega arith))
-      (none-value (c + 2) e _ (n (c + 2) (omega arith) (omega arith)) (none-value (c + 3) e [] (n (c + 3) (omega arith) (omega arith)) none-here)))
+      (none-value (c + 2) e _ (n (c + 2) (omega arith) (omega arith))
+      (none-value (c + 3) e _ (n (c + 3) (omega arith) (omega arith)) (none-value (c + 4) e [] (n (c + 4) (omega arith) (omega arith)) none-here))))
 
-  item-none : (a : ℕ) (i : List Field) → ((q : ℕ) → a ≤ q → q ≤ a + 5 → q ≡ p → ⊥) → noneAt p (itemFields a i) ≡ true
+  item-none : (a : ℕ) (i : List Field) → ((q : ℕ) → a ≤ q → q ≤ a + 6 → q ≡ p → ⊥) → noneAt p (itemFields a i) ≡ true
   unfolding itemFields
   item-none a i n = none-value (a + 1) i _ (n (a + 1) (omega arith) (omega arith)) (context-none (a + 2) i (λ q l u. n q (omega arith) (omega arith)))
 
-  items-none : (a : ℕ) (is : List (List Field)) → ((q : ℕ) → a ≤ q → q ≤ a + 5 → q ≡ p → ⊥) → noneAt p (flatMap (itemFields a) is) ≡ true
+  items-none : (a : ℕ) (is : List (List Field)) → ((q : ℕ) → a ≤ q → q ≤ a + 6 → q ≡ p → ⊥) → noneAt p (flatMap (itemFields a) is) ≡ true
   unfolding flatMap
   items-none a [] n = none-here
   items-none a (i ∷ is) n = none-both (itemFields a i) (flatMap (itemFields a) is) (item-none a i n) (items-none a is n)
 
-  pub access-none : (a : ℕ) (e : List Field) → ((q : ℕ) → a ≤ q → q ≤ a + 5 → q ≡ p → ⊥) → noneAt p (accessFields a e) ≡ true
+  pub access-none : (a : ℕ) (e : List Field) → ((q : ℕ) → a ≤ q → q ≤ a + 6 → q ≡ p → ⊥) → noneAt p (accessFields a e) ≡ true
   unfolding accessFields
   access-none a e n = go (isEmpty (itemsOf a e))
     where
@@ -108,15 +110,15 @@ module _ (p : ℕ) where
       go true = none-value a e [] (n a (omega arith) (omega arith)) none-here
       go false = none-bare a _ (n a (omega arith) (omega arith)) (items-none a (itemsOf a e) n)
 
-  pub rest-none : (e : List Field) → ((q : ℕ) → 9 ≤ q → q ≡ p → ⊥) → noneAt p (entryRest e) ≡ true
+  pub rest-none : (e : List Field) → ((q : ℕ) → subjectOfEntry ≤ q → q ≡ p → ⊥) → noneAt p (entryRest e) ≡ true
   unfolding entryRest
   rest-none e n =
-      none-value 9 e _ (n 9 (omega arith))
-      (none-both (contextFields 10 e) _ (context-none 10 e (λ q l u. n q (omega arith)))
-      (none-value 14 e _ (n 14 (omega arith))
-      (none-value 15 e _ (n 15 (omega arith))
-      (none-both (accessFields 16 e) (accessFields 22 e) (access-none 16 e (λ q l u. n q (omega arith)))
-      (access-none 22 e (λ q l u. n q (omega arith)))))))
+      none-value subjectOfEntry e _ (n subjectOfEntry (omega arith))
+      (none-both (contextFields executionContext e) _ (context-none executionContext e (λ q l u. n q (omega arith)))
+      (none-value canCall e _ (n canCall (omega arith))
+      (none-value canReturn e _ (n canReturn (omega arith))
+      (none-both (accessFields canRead e) (accessFields canWrite e) (access-none canRead e (λ q l u. n q (omega arith)))
+      (access-none canWrite e (λ q l u. n q (omega arith)))))))
 
 -- ---- the value of a field that is written, and of one behind it
 

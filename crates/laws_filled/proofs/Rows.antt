@@ -108,7 +108,7 @@ maps-first p l q bare (f ∷ fs) o = go (isAt principal f) refl (maps-first p l 
 
 -- a place in an item
 unfoldable inside : ℕ → ℕ → Bool
-inside a p = within (a + 1) (a + 5) p
+inside a p = within (a + 1) (a + 6) p
 
 -- items are open behind a bare field of the access, and inside one
 unfoldable open-items : ℕ → ℕ → Bool → Bool
@@ -123,13 +123,13 @@ stays-open a q p = not (inside a p) || inside a q
 
 -- behind a field of the access with a value, and behind all of its items, none comes any more
 unfoldable gone : ℕ → ℕ → Bool → Bool
-gone a q bare = (not bare && eqb q a) || ltb (a + 5) q
+gone a q bare = (not bare && eqb q a) || ltb (a + 6) q
 
 unfoldable beyond : ℕ → ℕ → ℕ → Bool
-beyond a q p = not (ltb (a + 5) q) || (eqb p 8 || ltb (a + 5) p)
+beyond a q p = not (ltb (a + 6) q) || (eqb p 8 || ltb (a + 6) p)
 
 unfoldable closes : ℕ → ℕ → ℕ → Bool
-closes a q p = not (eqb q a || ltb (a + 5) q) || (eqb p 8 || ltb (a + 5) p)
+closes a q p = not (eqb q a || ltb (a + 6) q) || (eqb p 8 || ltb (a + 6) p)
 
 shut-test : (b e q i : Bool) → ((b && e) || q) ≡ false → ((b && (not i || (e || q))) || (not i || q)) ≡ true → i ≡ false
 shut-test b e q false h k = refl
@@ -153,7 +153,7 @@ gone-test false false false false false h y k = absurd (false≢true h)
 not-inside-place : (a p : ℕ) → inside a p ≡ false → p ≡ a + 1 → ⊥
 unfolding inside
 not-inside-place a p h e =
-    false≢true (sym h ∙ both-true (leb (a + 1) p) (leb p (a + 5)) (le-leb (a + 1) p (omega arith)) (le-leb p (a + 5) (omega arith)))
+    false≢true (sym h ∙ both-true (leb (a + 1) p) (leb p (a + 6)) (le-leb (a + 1) p (omega arith)) (le-leb p (a + 6) (omega arith)))
 
 value-behind : (a : ℕ) (f : Field) (fs : List Field) → isAt a f ≡ false → valueAt a (f ∷ fs) ≡ valueAt a fs
 unfolding valueAt
@@ -175,7 +175,7 @@ one-more a f fs i ih never = go (isAt a f) (isEmpty (f .value)) refl refl ih nev
 
     go : (t u : Bool) → isAt a f ≡ t → isEmpty (f .value) ≡ u
         → (((u && t) || inside a (f .place)) ≡ false → (noneAt (objectsIn a) fs || is "[]" (valueAt a fs)) ≡ true)
-        → (((not u && t) || ltb (a + 5) (f .place)) ≡ true → noneAt (objectsIn a) fs ≡ true)
+        → (((not u && t) || ltb (a + 6) (f .place)) ≡ true → noneAt (objectsIn a) fs ≡ true)
         → (noneAt (objectsIn a) (f ∷ fs) || is "[]" (valueAt a (f ∷ fs))) ≡ true
     go true true e z k n = either-right (noneAt (objectsIn a) (f ∷ fs)) _ (value-none a f fs e z)
     go true false e z k n = either-left (noneAt (objectsIn a) (f ∷ fs)) _ (none-more (a + 1) f fs apart (n refl))
@@ -205,10 +205,10 @@ module _ (a : ℕ) (high : 8 < a) (shut : allRowsPass (opens a) (stays-open a) �
   not-inside q bare f m o = shut-test bare (eqb q a) (inside a q) (inside a (f .place)) o (follows (opens a) (stays-open a) shut q bare f m)
 
   still-gone : (q : ℕ) (bare : Bool) (f : Field) → mayFollow q bare f ≡ true → gone a q bare ≡ true → isAt principal f ≡ false
-      → ltb (a + 5) (f .place) ≡ true
+      → ltb (a + 6) (f .place) ≡ true
   unfolding gone beyond closes
   still-gone q bare f m g e =
-      gone-test bare (eqb q a) (ltb (a + 5) q) (eqb (f .place) 8) (ltb (a + 5) (f .place)) g e (follows (beyond a) (closes a) over q bare f m)
+      gone-test bare (eqb q a) (ltb (a + 6) q) (eqb (f .place) 8) (ltb (a + 6) (f .place)) g e (follows (beyond a) (closes a) over q bare f m)
 
   none-after : (q : ℕ) (bare : Bool) (fs : List Field) → inListingOrder q bare fs ≡ true → gone a q bare ≡ true
       → noneAt (objectsIn a) (upToNext principal fs) ≡ true
@@ -217,13 +217,13 @@ module _ (a : ℕ) (high : 8 < a) (shut : allRowsPass (opens a) (stays-open a) �
   none-after q bare (f ∷ fs) o g = go (isAt principal f) refl (none-after (f .place) (isEmpty (f .value)) fs (both-right (mayFollow q bare f) _ o))
     where
       go : (t : Bool) → isAt principal f ≡ t
-          → (((not (isEmpty (f .value)) && eqb (f .place) a) || ltb (a + 5) (f .place)) ≡ true → noneAt (objectsIn a) (upToNext principal fs) ≡ true)
+          → (((not (isEmpty (f .value)) && eqb (f .place) a) || ltb (a + 6) (f .place)) ≡ true → noneAt (objectsIn a) (upToNext principal fs) ≡ true)
           → noneAt (objectsIn a) (cond t [] (f ∷ upToNext principal fs)) ≡ true
       go true e ih = none-here (a + 1)
       go false e ih =
-          let s : ltb (a + 5) (f .place) ≡ true = still-gone q bare f (both-left (mayFollow q bare f) _ o) g e in
-          none-more (a + 1) f (upToNext principal fs) (λ (z : f .place ≡ a + 1). omega (arith, ltb-true (a + 5) (f .place) s))
-          (ih (either-right (not (isEmpty (f .value)) && eqb (f .place) a) (ltb (a + 5) (f .place)) s))
+          let s : ltb (a + 6) (f .place) ≡ true = still-gone q bare f (both-left (mayFollow q bare f) _ o) g e in
+          none-more (a + 1) f (upToNext principal fs) (λ (z : f .place ≡ a + 1). omega (arith, ltb-true (a + 6) (f .place) s))
+          (ih (either-right (not (isEmpty (f .value)) && eqb (f .place) a) (ltb (a + 6) (f .place)) s))
 
   bare-or-none : (q : ℕ) (bare : Bool) (fs : List Field) → inListingOrder q bare fs ≡ true → open-items a q bare ≡ false
       → (noneAt (objectsIn a) (upToNext principal fs) || is "[]" (valueAt a (upToNext principal fs))) ≡ true

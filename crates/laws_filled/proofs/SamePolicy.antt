@@ -2,13 +2,13 @@
 use mathlib.Core.Path.{_≡_, refl, sym, ap, _∙_}
 use mathlib.Core.List.{List, [], _∷_, _++_, map, flatMap, append-nil, append-assoc}
 use mathlib.Core.Bool.{Bool, true, false, cond, _||_}
-use Prim.Native.Nat.{ℕ, suc, _+_, _≤_}
+use Prim.Native.Nat.{ℕ, suc, _+_, _<_, _≤_}
 use native.Mathlib.Omega.{arith}
 use lib.ListN.{length}
 use borrow.Author.Tests.{eqb-true, eq-eqb, ne-eqb}
 use Rattle.paper.specs.Common.{bytes, isEmpty, is}
 use Rattle.paper.specs.Listing.{principal, subjectOfEntry, executionContext, canCall, canReturn, canRead, canWrite, callContextIn, uidIn, gidIn}
-use Rattle.paper.specs.Listing.{objectsIn, objectContextIn}
+use Rattle.paper.specs.Listing.{namespaceIn, objectsIn, objectContextIn}
 use Rattle.paper.specs.Page.{Field}
 use Rattle.paper.specs.Entries.{meant, valueAt, upToNext, stretchesFrom, entriesOf, itemsOf}
 use Rattle.paper.specs.Policy.{contextOf, descriptorOf, accessOf, entryOf}
@@ -44,18 +44,27 @@ module _ (a : ℕ) (i t : List Field) where
       ∙ value-skips (a + 2 + 2) (a + 2 + 1) i _ (λ (e : a + 2 + 1 ≡ a + 2 + 2). omega arith)
       ∙ value-here (a + 2 + 2) i _
 
-  pub item-gid : valueAt (gidIn (objectContextIn a)) (itemFields a i ++ t) ≡ valueAt (gidIn (objectContextIn a)) i
+  -- behind its `uid`
+  past-uid : (p : ℕ) → a + 2 + 2 < p → valueAt p (itemFields a i ++ t) ≡ valueAt p (valueField (a + 2 + 3) i ∷ valueField (a + 2 + 4) i ∷ t)
   unfolding itemFields contextFields
-  item-gid =
-      value-skips (a + 2 + 3) (a + 1) i _ (λ (e : a + 1 ≡ a + 2 + 3). omega arith)
-      ∙ bare-skips (a + 2 + 3) (a + 2) _ (λ (e : a + 2 ≡ a + 2 + 3). omega arith)
-      ∙ value-skips (a + 2 + 3) (a + 2 + 1) i _ (λ (e : a + 2 + 1 ≡ a + 2 + 3). omega arith)
-      ∙ value-skips (a + 2 + 3) (a + 2 + 2) i _ (λ (e : a + 2 + 2 ≡ a + 2 + 3). omega arith)
-      ∙ value-here (a + 2 + 3) i _
+  past-uid p h =
+      value-skips p (a + 1) i _ (λ (e : a + 1 ≡ p). omega arith)
+      ∙ bare-skips p (a + 2) _ (λ (e : a + 2 ≡ p). omega arith)
+      ∙ value-skips p (a + 2 + 1) i _ (λ (e : a + 2 + 1 ≡ p). omega arith)
+      ∙ value-skips p (a + 2 + 2) i _ (λ (e : a + 2 + 2 ≡ p). omega arith)
+
+  pub item-gid : valueAt (gidIn (objectContextIn a)) (itemFields a i ++ t) ≡ valueAt (gidIn (objectContextIn a)) i
+  item-gid = past-uid (a + 2 + 3) (omega arith) ∙ value-here (a + 2 + 3) i _
+
+  pub item-namespace : valueAt (namespaceIn (objectContextIn a)) (itemFields a i ++ t) ≡ valueAt (namespaceIn (objectContextIn a)) i
+  item-namespace =
+      past-uid (a + 2 + 4) (omega arith)
+      ∙ value-skips (a + 2 + 4) (a + 2 + 3) i _ (λ (e : a + 2 + 3 ≡ a + 2 + 4). omega arith)
+      ∙ value-here (a + 2 + 4) i t
 
   item-descriptor : (file : List Field) → descriptorOf file a (itemFields a i ++ t) ≡ descriptorOf file a i
   unfolding descriptorOf contextOf
-  item-descriptor file = rw (item-objects, item-call, item-uid, item-gid) refl
+  item-descriptor file = rw (item-objects, item-call, item-uid, item-gid, item-namespace) refl
 
 -- ---- the items of an entry
 
@@ -157,6 +166,7 @@ pub record FrontValues (e : List Field) : Type 0 where
   pub call-context : valueAt (callContextIn executionContext) (entryFields e) ≡ valueAt (callContextIn executionContext) e
   pub uid : valueAt (uidIn executionContext) (entryFields e) ≡ valueAt (uidIn executionContext) e
   pub gid : valueAt (gidIn executionContext) (entryFields e) ≡ valueAt (gidIn executionContext) e
+  pub namespace : valueAt (namespaceIn executionContext) (entryFields e) ≡ valueAt (namespaceIn executionContext) e
   pub call : valueAt canCall (entryFields e) ≡ valueAt canCall e
   pub return : valueAt canReturn (entryFields e) ≡ valueAt canReturn e
 
@@ -167,17 +177,19 @@ front-values e = record {
   call-context = rw (value-some (callContextIn executionContext) e) refl;
   uid = rw (value-some (uidIn executionContext) e) refl;
   gid = rw (value-some (gidIn executionContext) e) refl;
+  namespace = rw (value-some (namespaceIn executionContext) e) refl;
   call = rw (value-some canCall e) refl;
   return = rw (value-some canReturn e) refl;
 }
 
-front-none : (p : ℕ) (e : List Field) → 16 ≤ p → noneAt p (entryFront e) ≡ true
+front-none : (p : ℕ) (e : List Field) → canRead ≤ p → noneAt p (entryFront e) ≡ true
 unfolding entryFront
 front-none p e h =
-    none-bare p 8 _ (λ (s : 8 ≡ p). omega arith)
-    (none-value p 9 e _ (λ (s : 9 ≡ p). omega arith)
-    (none-both p (contextFields 10 e) _ (context-none p 10 e (λ q l u s. omega arith))
-    (none-value p 14 e _ (λ (s : 14 ≡ p). omega arith) (none-value p 15 e [] (λ (s : 15 ≡ p). omega arith) (none-here p)))))
+    none-bare p principal _ (λ (s : principal ≡ p). omega arith)
+    (none-value p subjectOfEntry e _ (λ (s : subjectOfEntry ≡ p). omega arith)
+    (none-both p (contextFields executionContext e) _ (context-none p executionContext e (λ q l u s. omega arith))
+    (none-value p canCall e _ (λ (s : canCall ≡ p). omega arith)
+    (none-value p canReturn e [] (λ (s : canReturn ≡ p). omega arith) (none-here p)))))
 
 -- the two accesses
 pub record AccessAgain {B : Type 0} (asked : List Field → B) (e : List Field) (a : ℕ) : Type 0 where
@@ -189,10 +201,11 @@ module _ {B : Type 0} (e : List Field) where
       → AccessAgain asked e canRead
   unfolding itemsOf
   reads-again asked keeps b = record {
-    value = rw (entry-parts e) (value-past 16 (entryFront e) _ (front-none 16 e (omega arith)) ∙ access-value canRead e (accessFields canWrite e) b);
+    value = rw (entry-parts e)
+        (value-past canRead (entryFront e) _ (front-none canRead e (omega arith)) ∙ access-value canRead e (accessFields canWrite e) b);
     items = rw (entry-parts e)
-        (ap (map asked) (stretches-past 17 (entryFront e) _ (front-none 17 e (omega arith)))
-        ∙ access-items asked canRead keeps e (accessFields canWrite e) (access-none 17 canWrite e (λ q l u s. omega arith)));
+        (ap (map asked) (stretches-past (objectsIn canRead) (entryFront e) _ (front-none (objectsIn canRead) e (omega arith)))
+        ∙ access-items asked canRead keeps e (accessFields canWrite e) (access-none (objectsIn canRead) canWrite e (λ q l u s. omega arith)));
   }
 
   pub writes-again : (asked : List Field → B) → ((i t : List Field) → asked (itemFields canWrite i ++ t) ≡ asked i) → bareAbove canWrite e ≡ true
@@ -200,16 +213,17 @@ module _ {B : Type 0} (e : List Field) where
   unfolding itemsOf
   writes-again asked keeps b = record {
     value = rw (entry-parts e)
-        (value-past 22 (entryFront e) _ (front-none 22 e (omega arith))
-        ∙ value-past 22 (accessFields canRead e) (accessFields canWrite e) (access-none 22 canRead e (λ q l u s. omega arith))
-        ∙ ap (valueAt 22) (sym (append-nil (accessFields canWrite e)))
+        (value-past canWrite (entryFront e) _ (front-none canWrite e (omega arith))
+        ∙ value-past canWrite (accessFields canRead e) (accessFields canWrite e) (access-none canWrite canRead e (λ q l u s. omega arith))
+        ∙ ap (valueAt canWrite) (sym (append-nil (accessFields canWrite e)))
         ∙ access-value canWrite e [] b);
     items = rw (entry-parts e)
         (ap (map asked)
-        (stretches-past 23 (entryFront e) _ (front-none 23 e (omega arith))
-        ∙ stretches-past 23 (accessFields canRead e) (accessFields canWrite e) (access-none 23 canRead e (λ q l u s. omega arith))
-        ∙ ap (stretchesFrom 23) (sym (append-nil (accessFields canWrite e))))
-        ∙ access-items asked canWrite keeps e [] (none-here 23));
+        (stretches-past (objectsIn canWrite) (entryFront e) _ (front-none (objectsIn canWrite) e (omega arith))
+        ∙ stretches-past (objectsIn canWrite) (accessFields canRead e) (accessFields canWrite e)
+        (access-none (objectsIn canWrite) canRead e (λ q l u s. omega arith))
+        ∙ ap (stretchesFrom (objectsIn canWrite)) (sym (append-nil (accessFields canWrite e))))
+        ∙ access-items asked canWrite keeps e [] (none-here (objectsIn canWrite)));
   }
 
 module _ (file e : List Field) where
@@ -224,7 +238,7 @@ module _ (file e : List Field) where
       let v = front-values e in
       let reads = access-same canRead (reads-again e (descriptorOf file canRead) (λ i t. item-descriptor canRead i t file) r) in
       let writes = access-same canWrite (writes-again e (descriptorOf file canWrite) (λ i t. item-descriptor canWrite i t file) w) in
-      rw (v .subject, v .call-context, v .uid, v .gid, v .call, v .return, reads, writes) refl
+      rw (v .subject, v .call-context, v .uid, v .gid, v .namespace, v .call, v .return, reads, writes) refl
 
 -- ---- the entries of the file
 

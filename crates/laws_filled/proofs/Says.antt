@@ -7,7 +7,7 @@ use lib.Dec.{eqb}
 use Rattle.paper.specs.Common.{is}
 use Rattle.paper.specs.Lists.{elements}
 use Rattle.paper.specs.Listing.{objectName, objectMembers, subjectName, subjectMembers, subjectOfEntry, executionContext, canCall, canReturn, canRead}
-use Rattle.paper.specs.Listing.{canWrite, callContextIn, uidIn, gidIn, objectsIn, objectContextIn}
+use Rattle.paper.specs.Listing.{canWrite, callContextIn, uidIn, gidIn, namespaceIn, objectsIn, objectContextIn}
 use Rattle.paper.specs.Page.{Field}
 use Rattle.paper.specs.Entries.{isAt, meant, valueAt, fieldsAt, upToNext, stretchesFrom, entriesOf, itemsOf}
 use Rattle.paper.specs.Rules.{domainsAt, identifiersAt}
@@ -116,7 +116,13 @@ module _ (p : ℕ) where
 
 context-says : (functions domains : List (List ℕ)) (place : ℕ) (fs : List Field) → contextOf functions domains place (map says fs) ≡ contextOf functions domains place fs
 unfolding contextOf
-context-says functions domains place fs = rw (value-says (callContextIn place) fs, value-says (uidIn place) fs, value-says (gidIn place) fs) refl
+context-says functions domains place fs =
+    rw (
+      value-says (callContextIn place) fs,
+      value-says (uidIn place) fs,
+      value-says (gidIn place) fs,
+      value-says (namespaceIn place) fs,
+    ) refl
 
 module _ (file : List Field) where
   descriptor-says : (a : ℕ) (item : List Field) → descriptorOf (map says file) a (map says item) ≡ descriptorOf file a item

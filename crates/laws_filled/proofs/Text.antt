@@ -5,7 +5,7 @@ use mathlib.Core.Bool.{Bool, true, false, cond}
 use Prim.Native.Nat.{ℕ}
 use lib.Dec.{eqb}
 use Rattle.paper.specs.Common.{bytes, isEmpty, anyOf}
-use Rattle.paper.specs.Listing.{principal, subjectOfEntry, executionContext, canCall, canReturn, canRead, canWrite, callContextIn, uidIn, gidIn}
+use Rattle.paper.specs.Listing.{principal, subjectOfEntry, executionContext, canCall, canReturn, canRead, canWrite, callContextIn, uidIn, gidIn, namespaceIn}
 use Rattle.paper.specs.Listing.{objectsIn, objectContextIn}
 use Rattle.paper.specs.Page.{Field}
 use Rattle.paper.specs.Entries.{isAt, callContexts, defaultAt, meant, valueAt, upToNext, entriesOf, itemsOf}
@@ -65,7 +65,13 @@ value-last place e = value-more place e [] ∙ append-nil (valueLine place e)
 context-text : (place : ℕ) (fs : List Field) → flatMap writtenLine (contextFields place fs) ≡ contextText place fs
 unfolding contextFields contextText
 context-text place fs =
-    rw (bare-more place _, value-more (callContextIn place) fs _, value-more (uidIn place) fs _, value-last (gidIn place) fs) refl
+    rw (
+      bare-more place _,
+      value-more (callContextIn place) fs _,
+      value-more (uidIn place) fs _,
+      value-more (gidIn place) fs _,
+      value-last (namespaceIn place) fs,
+    ) refl
 
 item-text : (access : ℕ) (item : List Field) → flatMap writtenLine (itemFields access item) ≡ itemText access item
 unfolding itemFields itemText

@@ -6,7 +6,7 @@ use Prim.Native.Nat.{ℕ}
 use borrow.Author.Tests.{eqb-true}
 use Rattle.paper.specs.Common.{isEmpty, anyOf}
 use Rattle.paper.specs.Listing.{listing, rowAt, bareIsNone, principal, subjectOfEntry, executionContext, canCall, canReturn, canRead, canWrite}
-use Rattle.paper.specs.Listing.{callContextIn, uidIn, gidIn, objectsIn, objectContextIn}
+use Rattle.paper.specs.Listing.{callContextIn, uidIn, gidIn, namespaceIn, objectsIn, objectContextIn}
 use Rattle.paper.specs.Page.{Field}
 use Rattle.paper.specs.Entries.{isAt, upToNext, stretchesFrom, entriesOf, itemsOf}
 use Rattle.laws.proofs.Tests.{both-true, both-left, both-right}
@@ -32,39 +32,41 @@ record ContextOrder (c : ℕ) : Type 0 where
   call : mayCome c true (callContextIn c) ≡ true
   uid : mayCome (callContextIn c) false (uidIn c) ≡ true
   gid : mayCome (uidIn c) false (gidIn c) ≡ true
+  namespace : mayCome (gidIn c) false (namespaceIn c) ≡ true
 
 module _ (c : ℕ) (o : ContextOrder c) where
-  context-comes : (q : ℕ) (bare : Bool) (e t : List Field) → mayCome q bare c ≡ true → inListingOrder (gidIn c) false t ≡ true
+  context-comes : (q : ℕ) (bare : Bool) (e t : List Field) → mayCome q bare c ≡ true → inListingOrder (namespaceIn c) false t ≡ true
       → inListingOrder q bare (contextFields c e ++ t) ≡ true
   unfolding contextFields
   context-comes q bare e t m h =
       bare-comes q bare c _ m
       (value-comes c true (callContextIn c) _ (o .call) e
-      (value-comes (callContextIn c) false (uidIn c) _ (o .uid) e (value-comes (uidIn c) false (gidIn c) t (o .gid) e h)))
+      (value-comes (callContextIn c) false (uidIn c) _ (o .uid) e
+      (value-comes (uidIn c) false (gidIn c) _ (o .gid) e (value-comes (gidIn c) false (namespaceIn c) t (o .namespace) e h))))
 
 -- an item of `can_read` or `can_write`
 record AccessOrder (a : ℕ) : Type 0 where
   first : mayCome a true (objectsIn a) ≡ true
   inner : mayCome (objectsIn a) false (objectContextIn a) ≡ true
-  again : mayCome (gidIn (objectContextIn a)) false (objectsIn a) ≡ true
+  again : mayCome (namespaceIn (objectContextIn a)) false (objectsIn a) ≡ true
   context : ContextOrder (objectContextIn a)
 
 module _ (a : ℕ) (o : AccessOrder a) where
   item-comes : (q : ℕ) (bare : Bool) (item t : List Field) → mayCome q bare (objectsIn a) ≡ true
-      → inListingOrder (gidIn (objectContextIn a)) false t ≡ true → inListingOrder q bare (itemFields a item ++ t) ≡ true
+      → inListingOrder (namespaceIn (objectContextIn a)) false t ≡ true → inListingOrder q bare (itemFields a item ++ t) ≡ true
   unfolding itemFields
   item-comes q bare item t m h =
       value-comes q bare (objectsIn a) _ m item (context-comes (objectContextIn a) (o .context) (objectsIn a) false item t (o .inner) h)
 
-  items-come : (is : List (List Field)) (t : List Field) → inListingOrder (gidIn (objectContextIn a)) false t ≡ true
-      → inListingOrder (gidIn (objectContextIn a)) false (flatMap (itemFields a) is ++ t) ≡ true
+  items-come : (is : List (List Field)) (t : List Field) → inListingOrder (namespaceIn (objectContextIn a)) false t ≡ true
+      → inListingOrder (namespaceIn (objectContextIn a)) false (flatMap (itemFields a) is ++ t) ≡ true
   unfolding flatMap
   items-come [] t h = h
   items-come (i ∷ is) t h =
       rw (append-assoc (itemFields a i) (flatMap (itemFields a) is) t)
-      (item-comes (gidIn (objectContextIn a)) false i (flatMap (itemFields a) is ++ t) (o .again) (items-come is t h))
+      (item-comes (namespaceIn (objectContextIn a)) false i (flatMap (itemFields a) is ++ t) (o .again) (items-come is t h))
 
-  some-come : (is : List (List Field)) (t : List Field) → isEmpty is ≡ false → inListingOrder (gidIn (objectContextIn a)) false t ≡ true
+  some-come : (is : List (List Field)) (t : List Field) → isEmpty is ≡ false → inListingOrder (namespaceIn (objectContextIn a)) false t ≡ true
       → inListingOrder a true (flatMap (itemFields a) is ++ t) ≡ true
   unfolding flatMap
   some-come [] t s h = absurd (false≢true (sym s))
@@ -73,7 +75,7 @@ module _ (a : ℕ) (o : AccessOrder a) where
       (item-comes a true i (flatMap (itemFields a) is ++ t) (o .first) (items-come is t h))
 
   access-comes : (q : ℕ) (bare : Bool) (e t : List Field) → mayCome q bare a ≡ true → inListingOrder a false t ≡ true
-      → inListingOrder (gidIn (objectContextIn a)) false t ≡ true → inListingOrder q bare (accessFields a e ++ t) ≡ true
+      → inListingOrder (namespaceIn (objectContextIn a)) false t ≡ true → inListingOrder q bare (accessFields a e ++ t) ≡ true
   unfolding accessFields
   access-comes q bare e t m h k = go (isEmpty (itemsOf a e)) refl
     where
@@ -86,29 +88,29 @@ module _ (a : ℕ) (o : AccessOrder a) where
 
 execution-order : ContextOrder executionContext
 unfolding mayCome mayFollow needsBlock bareIsNone unwritten anyOf rowAt listing
-execution-order = record { call = refl; uid = refl; gid = refl }
+execution-order = record { call = refl; uid = refl; gid = refl; namespace = refl }
 
 read-order : AccessOrder canRead
 unfolding mayCome mayFollow needsBlock bareIsNone unwritten anyOf rowAt listing
-read-order = record { first = refl; inner = refl; again = refl; context = record { call = refl; uid = refl; gid = refl } }
+read-order = record { first = refl; inner = refl; again = refl; context = record { call = refl; uid = refl; gid = refl; namespace = refl } }
 
 write-order : AccessOrder canWrite
 unfolding mayCome mayFollow needsBlock bareIsNone unwritten anyOf rowAt listing
-write-order = record { first = refl; inner = refl; again = refl; context = record { call = refl; uid = refl; gid = refl } }
+write-order = record { first = refl; inner = refl; again = refl; context = record { call = refl; uid = refl; gid = refl; namespace = refl } }
 
 -- the places of an entry, from one to the next
 record EntryOrder : Type 0 where
   subject : mayCome principal true subjectOfEntry ≡ true
   context : mayCome subjectOfEntry false executionContext ≡ true
-  call : mayCome (gidIn executionContext) false canCall ≡ true
+  call : mayCome (namespaceIn executionContext) false canCall ≡ true
   return : mayCome canCall false canReturn ≡ true
   read : mayCome canReturn false canRead ≡ true
   write : mayCome canRead false canWrite ≡ true
-  write-behind : mayCome (gidIn (objectContextIn canRead)) false canWrite ≡ true
+  write-behind : mayCome (namespaceIn (objectContextIn canRead)) false canWrite ≡ true
   again : mayCome canWrite false principal ≡ true
-  again-behind : mayCome (gidIn (objectContextIn canWrite)) false principal ≡ true
+  again-behind : mayCome (namespaceIn (objectContextIn canWrite)) false principal ≡ true
   ends : inListingOrder canWrite false [] ≡ true
-  ends-behind : inListingOrder (gidIn (objectContextIn canWrite)) false [] ≡ true
+  ends-behind : inListingOrder (namespaceIn (objectContextIn canWrite)) false [] ≡ true
 
 entry-order : EntryOrder
 unfolding mayCome mayFollow needsBlock bareIsNone unwritten anyOf rowAt listing inListingOrder
@@ -131,7 +133,7 @@ entry-order = record {
 -- what may stand behind an entry
 record Behind (t : List Field) : Type 0 where
   line : inListingOrder canWrite false t ≡ true
-  items : inListingOrder (gidIn (objectContextIn canWrite)) false t ≡ true
+  items : inListingOrder (namespaceIn (objectContextIn canWrite)) false t ≡ true
 
 write-comes : (q : ℕ) (e t : List Field) → mayCome q false canWrite ≡ true → Behind t → inListingOrder q false (accessFields canWrite e ++ t) ≡ true
 write-comes q e t m b = access-comes canWrite write-order q false e t m (b .line) (b .items)
@@ -141,8 +143,8 @@ unfolding entryRest
 rest-comes e t b =
     let r : inListingOrder canReturn false (accessFields canRead e ++ (accessFields canWrite e ++ t)) ≡ true
     = access-comes canRead read-order canReturn false e (accessFields canWrite e ++ t) (entry-order .read)
-    (write-comes canRead e t (entry-order .write) b) (write-comes (gidIn (objectContextIn canRead)) e t (entry-order .write-behind) b) in
-    let s = value-comes (gidIn executionContext) false canCall _ (entry-order .call) e
+    (write-comes canRead e t (entry-order .write) b) (write-comes (namespaceIn (objectContextIn canRead)) e t (entry-order .write-behind) b) in
+    let s = value-comes (namespaceIn executionContext) false canCall _ (entry-order .call) e
     (value-comes canCall false canReturn _ (entry-order .return) e r) in
     let c = context-comes executionContext execution-order subjectOfEntry false e _ (entry-order .context) s in
     value-comes principal true subjectOfEntry _ (entry-order .subject) e
@@ -159,7 +161,7 @@ entries-behind (e ∷ es) =
     let r = rest-comes e (flatMap entryFields es) (entries-behind es) in
     record {
       line = bare-comes canWrite false principal (entryRest e ++ flatMap entryFields es) (entry-order .again) r;
-      items = bare-comes (gidIn (objectContextIn canWrite)) false principal (entryRest e ++ flatMap entryFields es) (entry-order .again-behind) r;
+      items = bare-comes (namespaceIn (objectContextIn canWrite)) false principal (entryRest e ++ flatMap entryFields es) (entry-order .again-behind) r;
     }
 
 -- ---- the maps, and the entries behind them

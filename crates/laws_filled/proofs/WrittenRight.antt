@@ -8,7 +8,7 @@ use borrow.Author.Tests.{eqb-true, eq-eqb}
 use Rattle.paper.proofs.Computing.{computing}
 use Rattle.paper.specs.Common.{bytes, isEmpty, allOf, anyOf}
 use Rattle.paper.specs.Listing.{rowAt, bareIsNone, valueFault, principal, subjectOfEntry, executionContext, canCall, canReturn, canRead, canWrite}
-use Rattle.paper.specs.Listing.{callContextIn, uidIn, gidIn, objectsIn, objectContextIn}
+use Rattle.paper.specs.Listing.{callContextIn, uidIn, gidIn, namespaceIn, objectsIn, objectContextIn}
 use Rattle.paper.specs.Page.{Field}
 use Rattle.paper.specs.Entries.{isAt, defaultAt, meant, valueAt, upToNext, stretchesFrom, entriesOf, itemsOf}
 use Rattle.laws.proofs.Tests.{both-true, both-left, both-right, either-right}
@@ -72,6 +72,7 @@ record ContextFills (c : ℕ) : Type 0 where
   call : fills (callContextIn c) ≡ true
   uid : fills (uidIn c) ≡ true
   gid : fills (gidIn c) ≡ true
+  namespace : fills (namespaceIn c) ≡ true
 
 record AccessFills (a : ℕ) : Type 0 where
   line : fills a ≡ true
@@ -80,15 +81,15 @@ record AccessFills (a : ℕ) : Type 0 where
 
 execution-fills : ContextFills executionContext
 unfolding computing fills noneRight defaultRight
-execution-fills = record { call = refl; uid = refl; gid = refl }
+execution-fills = record { call = refl; uid = refl; gid = refl; namespace = refl }
 
 read-fills : AccessFills canRead
 unfolding computing fills noneRight defaultRight
-read-fills = record { line = refl; objects = refl; context = record { call = refl; uid = refl; gid = refl } }
+read-fills = record { line = refl; objects = refl; context = record { call = refl; uid = refl; gid = refl; namespace = refl } }
 
 write-fills : AccessFills canWrite
 unfolding computing fills noneRight defaultRight
-write-fills = record { line = refl; objects = refl; context = record { call = refl; uid = refl; gid = refl } }
+write-fills = record { line = refl; objects = refl; context = record { call = refl; uid = refl; gid = refl; namespace = refl } }
 
 call-fills : fills canCall ≡ true
 unfolding computing fills noneRight defaultRight
@@ -122,7 +123,9 @@ context-right : (c : ℕ) (e : List Field) → ContextFills c → allOf isSound 
 unfolding contextFields
 context-right c e k s =
     some-right (unwritten c []) _ (bare-right c)
-    (fields-fill (callContextIn c) e _ (k .call) s (fields-fill (uidIn c) e _ (k .uid) s (fields-fill (gidIn c) e [] (k .gid) s none-right)))
+    (fields-fill (callContextIn c) e _ (k .call) s
+    (fields-fill (uidIn c) e _ (k .uid) s
+    (fields-fill (gidIn c) e _ (k .gid) s (fields-fill (namespaceIn c) e [] (k .namespace) s none-right))))
 
 item-right : (a : ℕ) (item : List Field) → AccessFills a → allOf isSound item ≡ true → allOf isRight (itemFields a item) ≡ true
 unfolding itemFields

@@ -6,7 +6,7 @@ use lib.ListN.{length}
 use Rattle.paper.specs.Common.{isEmpty}
 use Rattle.paper.specs.Text.{noLine}
 use Rattle.paper.specs.Listing.{keyAt, principal, subjectOfEntry, executionContext, canCall, canReturn, canRead, canWrite, callContextIn, uidIn}
-use Rattle.paper.specs.Listing.{gidIn, objectsIn, objectContextIn}
+use Rattle.paper.specs.Listing.{gidIn, namespaceIn, objectsIn, objectContextIn}
 use Rattle.paper.specs.Page.{Field}
 use Rattle.paper.specs.Entries.{valueAt, upToNext, entriesOf, itemsOf}
 use Rattle.paper.specs.Filled.{writtenLine}
@@ -33,10 +33,15 @@ numbered n at (f ∷ fs) =
 unfoldable pub valueField : ℕ → List Field → Field
 valueField place fs = unwritten place (valueAt place fs)
 
--- "contexts always get three keys"
+-- "contexts always get three keys", and `namespace` after `gid` (document 02 g)
 unfoldable pub contextFields : ℕ → List Field → List Field
 contextFields place fs =
-    unwritten place [] ∷ valueField (callContextIn place) fs ∷ valueField (uidIn place) fs ∷ valueField (gidIn place) fs ∷ []
+    unwritten place []
+    ∷ valueField (callContextIn place) fs
+    ∷ valueField (uidIn place) fs
+    ∷ valueField (gidIn place) fs
+    ∷ valueField (namespaceIn place) fs
+    ∷ []
 
 -- an item: its `objects` and its context
 unfoldable pub itemFields : ℕ → List Field → List Field

@@ -6,7 +6,7 @@ use Prim.Native.Nat.{ℕ, _+_}
 use lib.ListN.{length-map}
 use Rattle.paper.specs.Limits.{mostDomains, mostMembers, mostEntries, mostDescriptors}
 use Rattle.paper.specs.Listing.{objectName, objectMembers, subjectName, subjectMembers, principal, executionContext, canRead, canWrite}
-use Rattle.paper.specs.Listing.{uidIn, gidIn, objectsIn}
+use Rattle.paper.specs.Listing.{uidIn, gidIn, namespaceIn, objectsIn}
 use Rattle.paper.specs.Page.{Field, fields}
 use Rattle.paper.specs.Entries.{isAtOne, valueAt, stretchesFrom, entriesOf, itemsOf, lineOfEntry}
 use Rattle.paper.specs.Rules.{firstWith, passing, oneAt, membersAt, descriptorsOf, descriptorsIn, longPattern, overLimit, repeated, domainNamed}
@@ -159,7 +159,8 @@ module _ (withReturn : ℕ → Bool) where
 
   unbound-names : (e : List Field) (f : Field) → isUnbound (map g e) (g f) ≡ isUnbound e f
   unfolding isUnbound isUnboundKey isAtOne moved
-  unbound-names e f = rw (value-moved (uidIn executionContext) e, value-moved (gidIn executionContext) e) refl
+  unbound-names e f =
+      rw (value-moved (uidIn executionContext) e, value-moved (gidIn executionContext) e, value-moved (namespaceIn executionContext) e) refl
 
   unbound-moved : (fs : List Field) → unboundVariable (map g fs) ≡ unboundVariable fs
   unfolding unboundVariable

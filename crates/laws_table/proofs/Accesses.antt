@@ -11,12 +11,12 @@ use lib.ListN.{getD}
 use Rattle.paper.specs.Common.{countUp, allOf}
 use Rattle.paper.specs.Policy.{Descriptor}
 use Rattle.paper.specs.Scalars.{sortNumber}
-use Rattle.paper.specs.Table.{uidAt, gidAt, variableWord, entryAt, descriptorAt, sortIn, entryCount, descriptorCount, readCount, writeCount, firstDescriptor, contextIn}
+use Rattle.paper.specs.Table.{uidAt, gidAt, namespaceAt, variableWord, entryAt, descriptorAt, sortIn, entryCount, descriptorCount, readCount, writeCount, firstDescriptor, contextIn}
 use Rattle.paper.specs.Table.{descriptorIn, entryIn}
-use Rattle.paper.specs.Table.{policyIn, boundBy, variablesBound}
+use Rattle.paper.specs.Table.{policyIn, boundAt, boundBy, variablesBound}
 use Rattle.laws.proofs.Tests.{upTo-at, upTo-all}
 use Rattle.laws.proofs.Counting.{counted-append, counted-runs, allOf-counted, counted-allOf}
-use Rattle.laws_table.specs.Proper.{isBinding, boundIn, accessesOf, allDescriptors}
+use Rattle.laws_table.specs.Proper.{isBinding, boundSort, boundIn, accessesOf, allDescriptors}
 
 binding : (w : ℕ) → eqb w variableWord ≡ isBinding (sortIn w)
 unfolding isBinding sortNumber sortIn
@@ -26,9 +26,13 @@ binding (suc (suc zero)) = refl
 binding (suc (suc (suc w))) = eqb·suc-suc (suc (suc w)) 0 ∙ eqb·suc-zero (suc w)
 
 module _ (ws : List ℕ) where
+  bound-at : (entry at key : ℕ) → boundAt ws entry at key ≡ boundSort (sortIn (getD ws (entry + key) 0)) (sortIn (getD ws (at + key) 0))
+  unfolding boundAt boundSort
+  bound-at entry at key = rw (binding (getD ws (at + key) 0), binding (getD ws (entry + key) 0))
+
   bound-by : (entry at : ℕ) → boundBy ws entry at ≡ boundIn (contextIn ws entry) (contextIn ws at)
   unfolding boundBy boundIn contextIn
-  bound-by entry at = rw (binding (getD ws (at + uidAt) 0), binding (getD ws (entry + uidAt) 0), binding (getD ws (at + gidAt) 0), binding (getD ws (entry + gidAt) 0))
+  bound-by entry at = rw (bound-at entry at uidAt, bound-at entry at gidAt, bound-at entry at namespaceAt)
 
   -- how many descriptors entry k has
   abbrev pub accessCount : ℕ → ℕ

@@ -14,7 +14,7 @@ use Rattle.paper.specs.Limits.{mostElements, mostMembers}
 use Rattle.paper.specs.Common.{allOf}
 use Rattle.paper.specs.Scalars.{Sort, anyone, variable, root, user, sortNumber}
 use Rattle.paper.specs.Policy.{Element, all, fn, anyIn, Context}
-use Rattle.paper.specs.Table.{contextSize, contextSpareAt, elementsAt, firstDomainWord, gidAt, gidSorts, uidAt, uidSorts}
+use Rattle.paper.specs.Table.{contextSize, namespaceAt, elementsAt, firstDomainWord, gidAt, gidSorts, uidAt, uidSorts}
 use Rattle.paper.specs.Table.{padded, elementWord, contextWords, elementIn, sortIn, contextIn, elementListed, contextFits, functionCount, subjectDomainCount}
 use Rattle.laws.proofs.Tests.{ltb-shifted, both-true, both-left, both-right, upTo-at, upTo-all}
 use Rattle.laws.proofs.Stretches.{Stands, stands-word, stands-right, stands-more, stands-taken, length-taken, taken-stretch, padded-front, padded-zero, padded-stands}
@@ -126,7 +126,7 @@ record Fitting (ws : List ℕ) (at : ℕ) : Type 0 where
   few : getD ws at 0 ≤ mostElements
   uid : getD ws (at + uidAt) 0 < uidSorts
   gid : getD ws (at + gidAt) 0 < gidSorts
-  unused : getD ws (at + contextSpareAt) 0 ≡ 0
+  namespace : getD ws (at + namespaceAt) 0 < gidSorts
   used : (i : ℕ) → i < getD ws at 0 → elementListed ws (getD ws (at + elementsAt + i) 0) ≡ true
   past : (i : ℕ) → getD ws at 0 ≤ i → i < mostElements → getD ws (at + elementsAt + i) 0 ≡ 0
 
@@ -143,7 +143,7 @@ module _ (ws : List ℕ) (at : ℕ) where
         few = few;
         uid = ltb-true _ _ (search (both-left, both-right) depth 7);
         gid = ltb-true _ _ (search (both-left, both-right) depth 7);
-        unused = eqb-true _ _ (search (both-left, both-right) depth 7);
+        namespace = ltb-true _ _ (search (both-left, both-right) depth 7);
         used = λ i l. rw (lt-ltb i (getD ws at 0) l) at (element i (omega arith));
         past = λ i p q. eqb-true (getD ws (at + elementsAt + i) 0) 0 (rw (le-ltb i (getD ws at 0) p) at (element i q));
       }
@@ -160,7 +160,7 @@ module _ (ws : List ℕ) (at : ℕ) where
       (both-true _ _ (le-leb _ _ (f .some)) (le-leb _ _ (f .few)))
       (lt-ltb _ _ (f .uid)))
       (lt-ltb _ _ (f .gid)))
-      (eq-eqb _ _ (f .unused)))
+      (lt-ltb _ _ (f .namespace)))
       (upTo-all _ mostElements (λ i q. dite (decLt i (getD ws at 0))
       (λ (l : i < getD ws at 0). rw (lt-ltb i (getD ws at 0) l) (used i l))
       (λ (l : ¬ (i < getD ws at 0)). rw (le-ltb i (getD ws at 0) (omega arith)) (eq-eqb (getD ws (at + elementsAt + i) 0) 0 (past i (omega arith) q)))))
@@ -171,10 +171,11 @@ module _ (ws : List ℕ) (at : ℕ) where
       let n : getD ws at 0 ≡ length (c .pattern) = stands-word ws at 0 at _ s (omega arith) (omega arith) in
       let u : getD ws (at + uidAt) 0 ≡ sortNumber (c .uid) = s .reads 1 (omega arith) in
       let g : getD ws (at + gidAt) 0 ≡ sortNumber (c .gid) = s .reads 2 (omega arith) in
-      let body : Stands ws (at + elementsAt) (padded mostElements (map elementWord (c .pattern))) = stands-right ws at (at + elementsAt) (_ ∷ _ ∷ _ ∷ 0 ∷ []) _ refl s in
+      let m : getD ws (at + namespaceAt) 0 ≡ sortNumber (c .namespace) = s .reads 3 (omega arith) in
+      let body : Stands ws (at + elementsAt) (padded mostElements (map elementWord (c .pattern))) = stands-right ws at (at + elementsAt) (_ ∷ _ ∷ _ ∷ _ ∷ []) _ refl s in
       let t : take (length (c .pattern)) (drop (at + elementsAt) ws) ≡ map elementWord (c .pattern) =
       taken-stretch ws (at + elementsAt) _ _ (length-map (c .pattern) elementWord) (omega arith) (padded-front ws (at + elementsAt) mostElements _ body) in
-      rw (n, u, g, t, back, sort-read (c .uid), sort-read (c .gid))
+      rw (n, u, g, m, t, back, sort-read (c .uid), sort-read (c .gid), sort-read (c .namespace))
 
   -- the words of the pattern
   abbrev pattern-words : List ℕ
@@ -198,11 +199,12 @@ module _ (ws : List ℕ) (at : ℕ) where
         let n : length (map elementIn pattern-words) ≡ getD ws at 0 = pattern-length (f .few) in
         let u : sortNumber (sortIn (getD ws (at + uidAt) 0)) ≡ getD ws (at + uidAt) 0 = sort-written (getD ws (at + uidAt) 0) (f .uid) in
         let g : sortNumber (sortIn (getD ws (at + gidAt) 0)) ≡ getD ws (at + gidAt) 0 = sort-written (getD ws (at + gidAt) 0) (omega (arith, f .gid)) in
-        rw (n, u, g, maps-back elementWord elementIn element-written pattern-words)
+        let m : sortNumber (sortIn (getD ws (at + namespaceAt) 0)) ≡ getD ws (at + namespaceAt) 0 = sort-written (getD ws (at + namespaceAt) 0) (omega (arith, f .namespace)) in
+        rw (n, u, g, m, maps-back elementWord elementIn element-written pattern-words)
         (stands-more ws at (at + uidAt) _ _ refl refl
         (stands-more ws (at + uidAt) (at + gidAt) _ _ (omega arith) refl
-        (stands-more ws (at + gidAt) (at + contextSpareAt) _ _ (omega arith) refl
-        (stands-more ws (at + contextSpareAt) (at + elementsAt) _ _ (omega arith) (f .unused)
+        (stands-more ws (at + gidAt) (at + namespaceAt) _ _ (omega arith) refl
+        (stands-more ws (at + namespaceAt) (at + elementsAt) _ _ (omega arith) refl
         (padded-stands ws (at + elementsAt) mostElements pattern-words (stands-taken ws (at + elementsAt) (getD ws at 0))
         (λ i p q. f .past i (omega (arith, length-map pattern-words elementIn)) q))))))
 
@@ -213,9 +215,11 @@ module _ (ws : List ℕ) (at : ℕ) where
         rw (pattern-length (f .few))
         (both-true _ _
         (both-true _ _
+        (both-true _ _
         (both-true _ _ (le-leb _ _ (f .some)) (le-leb _ _ (f .few)))
         (allOf-each _ (elementIn 0) (map elementIn pattern-words) (λ i l. pattern-word i l ∙ f .used i (omega (arith, pattern-length (f .few))))))
         (gid-sort (getD ws (at + gidAt) 0) (f .gid)))
+        (gid-sort (getD ws (at + namespaceAt) 0) (f .namespace)))
 
     pub context-fits : Stands ws at (contextWords (contextIn ws at)) → properContext (functionCount ws) (subjectDomainCount ws) (contextIn ws at) ≡ true → contextFits ws at ≡ true
     unfolding properContext contextIn contextWords contextFits
@@ -225,15 +229,17 @@ module _ (ws : List ℕ) (at : ℕ) where
         let few : length (map elementIn pattern-words) ≤ mostElements = leb-true _ _ (search (both-left, both-right)) in
         let below : allOf (elementBelow (functionCount ws) (subjectDomainCount ws)) (map elementIn pattern-words) ≡ true = search (both-left, both-right) in
         let gid : isGidSort (sortIn (getD ws (at + gidAt) 0)) ≡ true = search (both-left, both-right) in
+        let namespace : isGidSort (sortIn (getD ws (at + namespaceAt) 0)) ≡ true = search (both-left, both-right) in
         let u : getD ws (at + uidAt) 0 ≡ sortNumber (sortIn (getD ws (at + uidAt) 0)) = s .reads 1 (omega arith) in
         let g : getD ws (at + gidAt) 0 ≡ sortNumber (sortIn (getD ws (at + gidAt) 0)) = s .reads 2 (omega arith) in
-        let body : Stands ws (at + elementsAt) (padded mostElements (map elementWord (map elementIn pattern-words))) = stands-right ws at (at + elementsAt) (_ ∷ _ ∷ _ ∷ 0 ∷ []) _ refl s in
+        let m : getD ws (at + namespaceAt) 0 ≡ sortNumber (sortIn (getD ws (at + namespaceAt) 0)) = s .reads 3 (omega arith) in
+        let body : Stands ws (at + elementsAt) (padded mostElements (map elementWord (map elementIn pattern-words))) = stands-right ws at (at + elementsAt) (_ ∷ _ ∷ _ ∷ _ ∷ []) _ refl s in
         fitted (record {
           some = omega arith;
           few = omega arith;
           uid = omega (arith, uid-number (sortIn (getD ws (at + uidAt) 0)));
           gid = omega (arith, gid-number (sortIn (getD ws (at + gidAt) 0)) gid);
-          unused = s .reads 3 (omega arith);
+          namespace = omega (arith, gid-number (sortIn (getD ws (at + namespaceAt) 0)) namespace);
           used = λ i l. sym (pattern-word i (omega arith)) ∙ allOf-at _ (elementIn 0) _ below i (omega arith);
           past = λ i p q. padded-zero ws (at + elementsAt) mostElements _ body i (omega (arith, length-map (map elementIn pattern-words) elementWord)) q;
         })

@@ -42,9 +42,9 @@ module _ {A : Type 0} (alike : A → A → Bool) (f : ℕ → A) where
 -- ---- one principal in 21 words
 
 context-words-same : (c d : Context) → map elementWord (c .pattern) ≡ map elementWord (d .pattern) → sortNumber (c .uid) ≡ sortNumber (d .uid)
-    → sortNumber (c .gid) ≡ sortNumber (d .gid) → contextWords c ≡ contextWords d
+    → sortNumber (c .gid) ≡ sortNumber (d .gid) → sortNumber (c .namespace) ≡ sortNumber (d .namespace) → contextWords c ≡ contextWords d
 unfolding contextWords
-context-words-same c d e u g = rw (← length-map (c .pattern) elementWord, ← length-map (d .pattern) elementWord, e, u, g)
+context-words-same c d e u g n = rw (← length-map (c .pattern) elementWord, ← length-map (d .pattern) elementWord, e, u, g, n)
 
 module _ (ws : List ℕ) where
   pub record Standing (at : ℕ) : Type 0 where
@@ -80,7 +80,7 @@ module _ (ws : List ℕ) where
       (λ (h : sharePrincipal (entryIn ws j) (entryIn ws k) ≡ true).
       let e : principalOf (entryIn ws j) ≡ principalOf (entryIn ws k) = same-equal _ _ h in
       let s : getD ws (entryAt j + subjectAt) 0 ≡ getD ws (entryAt k + subjectAt) 0 = cc in
-      let c : contextWords (contextIn ws (entryAt j)) ≡ contextWords (contextIn ws (entryAt k)) = context-words-same _ _ (cc) (cc) (cc) in
+      let c : contextWords (contextIn ws (entryAt j)) ≡ contextWords (contextIn ws (entryAt k)) = context-words-same _ _ (cc) (cc) (cc) (cc) in
       rw (principal-stands (entryAt j) p, principal-stands (entryAt k) q, c, s) (same-refl _))
 
   module _ (standing : (k : ℕ) → k < entryCount ws → Standing (entryAt k)) where

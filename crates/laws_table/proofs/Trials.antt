@@ -6,17 +6,17 @@ use Prim.Native.Nat.{ℕ}
 use Rattle.paper.specs.Scalars.{Sort, anyone, variable, root, user}
 use Rattle.paper.specs.Policy.{Element, all, fn, anyIn, every, these, Entry, Policy}
 use Rattle.paper.proofs.Computing.{computing}
-use Rattle.laws_table.specs.Proper.{elementBelow, isGidSort, properContext, properGrant, isBinding, boundIn, noTwo, principalOf, sharePrincipal, accessesOf}
+use Rattle.laws_table.specs.Proper.{elementBelow, isGidSort, properContext, properGrant, isBinding, boundSort, boundIn, noTwo, principalOf, sharePrincipal, accessesOf}
 use Rattle.laws_table.specs.Proper.{allDescriptors, properDescriptor, properEntry, properCounts, proper}
 
 -- an entry that may call everything and read one object domain: its pattern, sorts, subject, where it may return, and the uid of its object context
 abbrev entry : List Element → Sort → Sort → ℕ → List Bool → Sort → Entry
 entry pattern uid gid subject returns objectUid = record {
-  context = record { pattern = pattern; uid = uid; gid = gid };
+  context = record { pattern = pattern; uid = uid; gid = gid; namespace = anyone };
   subject = subject;
   calls = every;
   returns = these returns;
-  reads = record { context = record { pattern = all ∷ []; uid = objectUid; gid = anyone }; objects = these (true ∷ []) } ∷ [];
+  reads = record { context = record { pattern = all ∷ []; uid = objectUid; gid = anyone; namespace = anyone }; objects = these (true ∷ []) } ∷ [];
   writes = [];
 }
 
@@ -26,7 +26,8 @@ policy entries = record { objectDomains = 1; subjectDomains = 2; objects = 0 ∷
 
 -- every definition that `proper` stands on
 unfoldable opened : Unit {0}
-unfolding computing elementBelow isGidSort properContext properGrant isBinding boundIn noTwo principalOf sharePrincipal accessesOf allDescriptors properDescriptor properEntry properCounts proper
+unfolding computing elementBelow isGidSort properContext properGrant isBinding boundSort boundIn noTwo principalOf sharePrincipal accessesOf
+    allDescriptors properDescriptor properEntry properCounts proper
 opened = tt
 
 sound : proper (policy (entry (all ∷ fn 2 ∷ []) variable anyone 1 (true ∷ false ∷ []) variable ∷ [])) ≡ true

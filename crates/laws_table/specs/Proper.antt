@@ -24,7 +24,7 @@ isGidSort sort = ltb (sortNumber sort) gidSorts
 
 -- a context among so many functions and subject domains
 unfoldable pub properContext : ℕ → ℕ → Context → Bool
-properContext functions domains c = within 1 mostElements (length (c .pattern)) && allOf (elementBelow functions domains) (c .pattern) && isGidSort (c .gid)
+properContext functions domains c = within 1 mostElements (length (c .pattern)) && allOf (elementBelow functions domains) (c .pattern) && isGidSort (c .gid) && isGidSort (c .namespace)
 
 -- a grant among so many domains: of each, whether it is granted
 unfoldable pub properGrant : ℕ → Grant → Bool
@@ -36,8 +36,12 @@ properGrant domains (these granted) = eqb (length granted) domains
 unfoldable pub isBinding : Sort → Bool
 isBinding sort = eqb (sortNumber sort) (sortNumber variable)
 
+-- a sort of an object context, against the same one of its entry
+unfoldable pub boundSort : Sort → Sort → Bool
+boundSort entry object = not (isBinding object) || isBinding entry
+
 unfoldable pub boundIn : Context → Context → Bool
-boundIn entry object = (not (isBinding (object .uid)) || isBinding (entry .uid)) && (not (isBinding (object .gid)) || isBinding (entry .gid))
+boundIn entry object = boundSort (entry .uid) (object .uid) && boundSort (entry .gid) (object .gid) && boundSort (entry .namespace) (object .namespace)
 
 -- ---- "no two entries with one principal"
 
@@ -47,7 +51,8 @@ noTwo alike (x ∷ xs) = allOf (λ y. not (alike x y)) xs && noTwo alike xs
 
 -- subject, sorts and pattern, as numbers
 unfoldable pub principalOf : Entry → List ℕ
-principalOf e = e .subject ∷ sortNumber (e .context .uid) ∷ sortNumber (e .context .gid) ∷ map elementWord (e .context .pattern)
+principalOf e =
+    e .subject ∷ sortNumber (e .context .uid) ∷ sortNumber (e .context .gid) ∷ sortNumber (e .context .namespace) ∷ map elementWord (e .context .pattern)
 
 unfoldable pub sharePrincipal : Entry → Entry → Bool
 sharePrincipal a b = same (principalOf a) (principalOf b)

@@ -19,7 +19,7 @@ use Rattle.laws.proofs.Stretches.{length-padded}
 use Rattle.overlap_meeting.proofs.Order.{after-anti}
 
 module _ (p : Policy) (old : List ℕ) where
-  module _ (new : List ℕ) (i j depth uid gid : ℕ) (c : FirstClash p old new i j depth uid gid) where
+  module _ (new : List ℕ) (i j depth uid gid namespace : ℕ) (c : FirstClash p old new i j depth uid gid namespace) where
     few-frames : length (take depth new) ≤ witnessWords
     few-frames = let s = c .short in rw length-take (omega arith)
 
@@ -31,7 +31,8 @@ module _ (p : Policy) (old : List ℕ) where
         let s = c .short in
         length-take-le depth new (omega arith)
 
-  module _ (new new′ : List ℕ) (i j depth uid gid i′ j′ depth′ uid′ gid′ : ℕ) (c : FirstClash p old new i j depth uid gid) (c′ : FirstClash p old new′ i′ j′ depth′ uid′ gid′) where
+  module _ (new new′ : List ℕ) (i j depth uid gid namespace i′ j′ depth′ uid′ gid′ namespace′ : ℕ) (c : FirstClash p old new i j depth uid gid namespace)
+      (c′ : FirstClash p old new′ i′ j′ depth′ uid′ gid′ namespace′) where
     not-before : PairBefore i′ j′ i j → ⊥
     not-before b = c .first i′ j′ (c′ .ordered) (c′ .listed) b _ (c′ .both)
 
@@ -56,28 +57,29 @@ module _ (p : Policy) (old : List ℕ) where
     same-stack : take depth new ≡ take depth′ new′
     same-stack =
         after-anti (take depth new) (take depth′ new′)
-        (c .least (record { stack = take depth′ new′; uid = uid′; gid = gid′ }) (rw (same-lower, same-higher) (c′ .both)))
-        (c′ .least (record { stack = take depth new; uid = uid; gid = gid }) (rw (← same-lower, ← same-higher) (c .both)))
+        (c .least (record { stack = take depth′ new′; uid = uid′; gid = gid′; namespace = namespace′ }) (rw (same-lower, same-higher) (c′ .both)))
+        (c′ .least (record { stack = take depth new; uid = uid; gid = gid; namespace = namespace }) (rw (← same-lower, ← same-higher) (c .both)))
 
     same-depth : depth ≡ depth′
-    same-depth = sym (counted new i j depth uid gid c) ∙ (ap length same-stack ∙ counted new′ i′ j′ depth′ uid′ gid′ c′)
+    same-depth = sym (counted new i j depth uid gid namespace c) ∙ (ap length same-stack ∙ counted new′ i′ j′ depth′ uid′ gid′ namespace′ c′)
 
-    same-clash : (Clash i j depth uid gid ≡ Clash i′ j′ depth′ uid′ gid′) × (new ≡ new′)
+    same-clash : (Clash i j depth uid gid namespace ≡ Clash i′ j′ depth′ uid′ gid′ namespace′) × (new ≡ new′)
     same-clash =
         let e = same-lower in
         let f = same-higher in
         let g = same-depth in
         let u = same-uid in
         let v : gid ≡ gid′ = c .gidIs ∙ sym (c′ .gidIs) in
+        let n : namespace ≡ namespace′ = c .namespaceIs ∙ sym (c′ .namespaceIs) in
         (cc, c .left ∙ (ap (λ (s : List ℕ). witnessLeft s old) same-stack ∙ sym (c′ .left)))
 
   says-fixed : (new new′ : List ℕ) (r r′ : Report) → Says p old new r → Says p old new′ r′ → (r ≡ r′) × (new ≡ new′)
   says-fixed new new′ Clear Clear a b = (refl, a .0 ∙ sym (b .0))
-  says-fixed new new′ Clear (Clash i j depth uid gid) a b = absurd (a .1 i j (b .ordered) (b .listed) _ (b .both))
+  says-fixed new new′ Clear (Clash i j depth uid gid namespace) a b = absurd (a .1 i j (b .ordered) (b .listed) _ (b .both))
   says-fixed new new′ Clear (Unreported number) a b = absurd b
-  says-fixed new new′ (Clash i j depth uid gid) Clear a b = absurd (b .1 i j (a .ordered) (a .listed) _ (a .both))
-  says-fixed new new′ (Clash i j depth uid gid) (Clash i′ j′ depth′ uid′ gid′) a b = same-clash new new′ i j depth uid gid i′ j′ depth′ uid′ gid′ a b
-  says-fixed new new′ (Clash i j depth uid gid) (Unreported number) a b = absurd b
+  says-fixed new new′ (Clash i j depth uid gid namespace) Clear a b = absurd (b .1 i j (a .ordered) (a .listed) _ (a .both))
+  says-fixed new new′ (Clash i j depth uid gid namespace) (Clash i′ j′ depth′ uid′ gid′ namespace′) a b = same-clash new new′ i j depth uid gid namespace i′ j′ depth′ uid′ gid′ namespace′ a b
+  says-fixed new new′ (Clash i j depth uid gid namespace) (Unreported number) a b = absurd b
   says-fixed new new′ (Unreported number) r′ a b = absurd a
 
 pub reports-fixed : (table old new new′ : List ℕ) (r r′ : Report) → Reported table old new r → Reported table old new′ r′ → (r ≡ r′) × (new ≡ new′)

@@ -10,14 +10,14 @@ use lib.ListN.{length}
 use borrow.Author.Tests.{eqb-true, eq-eqb, not-true}
 use Rattle.paper.specs.Scalars.{Sort, anyone, variable, root, user, sortNumber}
 use Rattle.paper.specs.Policy.{Entry, Policy}
-use Rattle.paper.specs.Match.{Moment, liesIn, top, topLiesIn, sortFits, matches, entryMatches}
+use Rattle.paper.specs.Match.{Moment, liesIn, top, topLiesIn, sortFits, matches, sortsFit, entryMatches}
 use Rattle.paper.specs.Overlap.{isUser, witnessUid, NotAfter}
 use Rattle.overlap_cells.specs.Best.{mostNeeded, topPasses, Meet, bestStack}
 use Rattle.overlap_meeting.proofs.Common.{one-domain}
 use Rattle.overlap_meeting.proofs.Best.{Some}
 use Rattle.overlap_meeting.proofs.Order.{best-short, best-sound, best-least}
 use Rattle.laws.proofs.Tests.{both-true, both-left, both-right}
-use Rattle.overlap.specs.Clash.{isRoot, apart, mayClash, clashStack, MatchedShort}
+use Rattle.overlap.specs.Clash.{isRoot, apart, mayClash, clashStack, MatchedShort, Free}
 
 -- ---- the top frame
 top-next : (x y : ℕ) (s : List ℕ) → top (x ∷ y ∷ s) ≡ top (y ∷ s)
@@ -88,19 +88,21 @@ pub record Matched (p : Policy) (e : Entry) (m : Moment) : Type 0 where
   pub takes : matches (p .functions) (e .context .pattern) (m .stack) ≡ true
   pub uid : sortFits (e .context .uid) (m .uid) ≡ true
   pub gid : sortFits (e .context .gid) (m .gid) ≡ true
+  pub namespace : sortFits (e .context .namespace) (m .namespace) ≡ true
 
 pub matched : (p : Policy) (e : Entry) (m : Moment) → entryMatches p e m ≡ true → Matched p e m
-unfolding entryMatches
+unfolding entryMatches sortsFit
 matched p e m h = record {
   lies = search both-left depth 5;
   takes = search (both-left, both-right) depth 5;
   uid = search (both-left, both-right) depth 5;
-  gid = search both-right depth 5;
+  gid = search (both-left, both-right) depth 5;
+  namespace = search both-right depth 5;
 }
 
 is-matched : (p : Policy) (e : Entry) (m : Moment) → Matched p e m → entryMatches p e m ≡ true
-unfolding entryMatches
-is-matched p e m f = both-true _ _ (both-true _ _ (both-true _ _ (f .lies) (f .takes)) (f .uid)) (f .gid)
+unfolding entryMatches sortsFit
+is-matched p e m f = both-true _ _ (both-true _ _ (f .lies) (f .takes)) (both-true _ _ (both-true _ _ (f .uid) (f .gid)) (f .namespace))
 
 module _ (p : Policy) (a b : Entry) where
   -- the stack of these two entries
@@ -110,17 +112,17 @@ module _ (p : Policy) (a b : Entry) where
   -- ---- sound
   abbrev Both : List ℕ → Type 0
   Both s =
-      let m : Moment = record { stack = s; uid = witnessUid a b; gid = 0 } in
+      let m : Moment = record { stack = s; uid = witnessUid a b; gid = 0; namespace = 0 } in
       (entryMatches p a m ≡ true) × (entryMatches p b m ≡ true)
 
-  module _ (gidA : sortFits (a .context .gid) 0 ≡ true) (gidB : sortFits (b .context .gid) 0 ≡ true) where
+  module _ (one : Free (a .context)) (other : Free (b .context)) where
     both-at : (s : List ℕ) → a .subject ≡ b .subject → apart (a .context .uid) (b .context .uid) ≡ false →
         Meet (p .functions) (liesIn (p .functions) (a .subject)) (a .context .pattern) (b .context .pattern) s → Both s
     unfolding witnessUid
     both-at s e u c =
         let lies : topLiesIn p (a .subject) s ≡ true = top-lies p (a .subject) s ∙ c .top in (
-          is-matched p a _ (record { lies = lies; takes = c .one; uid = one-fits (a .context .uid) (b .context .uid) u; gid = gidA }),
-          is-matched p b _ (record { lies = rw (← e) lies; takes = c .other; uid = other-fits (a .context .uid) (b .context .uid) u; gid = gidB }),
+          is-matched p a _ (record { lies = lies; takes = c .one; uid = one-fits (a .context .uid) (b .context .uid) u; gid = one .gid; namespace = one .namespace }),
+          is-matched p b _ (record { lies = rw (← e) lies; takes = c .other; uid = other-fits (a .context .uid) (b .context .uid) u; gid = other .gid; namespace = other .namespace }),
         )
 
     pub clash-sound : Some stack → Both stack
@@ -176,6 +178,6 @@ module _ (p : Policy) (a b : Entry) where
       record {
         stack = best;
         short = best-short (p .functions) (a .subject) (a .context .pattern) (b .context .pattern);
-        one = is-matched p a _ (record { lies = lies; takes = meet .one; uid = f .uid; gid = f .gid });
-        other = is-matched p b _ (record { lies = rw (← same) lies; takes = meet .other; uid = g .uid; gid = g .gid });
+        one = is-matched p a _ (record { lies = lies; takes = meet .one; uid = f .uid; gid = f .gid; namespace = f .namespace });
+        other = is-matched p b _ (record { lies = rw (← same) lies; takes = meet .other; uid = g .uid; gid = g .gid; namespace = g .namespace });
       }

@@ -27,7 +27,7 @@ thirty = base ++ (15 ∷ aboveFifteen)
 
 abbrev entry : List Element → Entry
 entry pattern =
-    record { context = record { pattern = pattern; uid = anyone; gid = anyone }; subject = 0; calls = every; returns = every; reads = []; writes = [] }
+    record { context = record { pattern = pattern; uid = anyone; gid = anyone; namespace = anyone }; subject = 0; calls = every; returns = every; reads = []; writes = [] }
 
 abbrev two : Policy
 two =
@@ -51,7 +51,7 @@ pub thirty-needed : (m : Moment) → BothMatch two 0 1 m → 30 ≤ length (m .s
 thirty-needed m both = after-length thirty (m .stack) (thirty-first m both)
 
 -- and they clash there
-pub thirty-clash : (old : List ℕ) → Says two old (witnessLeft thirty old) (Clash 0 1 30 0 0)
+pub thirty-clash : (old : List ℕ) → Says two old (witnessLeft thirty old) (Clash 0 1 30 0 0 0)
 unfolding computing
 thirty-clash old =
     record {
@@ -64,4 +64,5 @@ thirty-clash old =
       left = refl;
       uidIs = refl;
       gidIs = refl;
+      namespaceIs = refl;
     }

@@ -101,7 +101,7 @@ module _ (ws : List ℕ) where
           let c = clash .written .counted in
           omega arith
 
-      pub clash-told : (old : List ℕ) (t : Report) → PastKept old mid → t ≡ Clash i j r (witnessUid (entryIn ws i) (entryIn ws j)) 0 → FirstOfAll ws old new t
+      pub clash-told : (old : List ℕ) (t : Report) → PastKept old mid → t ≡ Clash i j r (witnessUid (entryIn ws i) (entryIn ws j)) 0 0 → FirstOfAll ws old new t
       clash-told old t f g =
           rw g (
             record {
@@ -111,6 +111,7 @@ module _ (ws : List ℕ) where
               written = written-same (tableStack ws i j) old mid new r (clash .written) f;
               first = clash .first;
             },
+            refl,
             refl,
             refl,
           )

@@ -21,7 +21,7 @@ use Rattle.overlap_meeting.proofs.Best.{Some}
 use Rattle.overlap.specs.Clash.{pairStack, tableStack}
 use Rattle.overlap.specs.Told.{Ready, NoneBefore, Clashing, FirstOfAll}
 use Rattle.overlap.proofs.Clash.{clash-sound, clash-least}
-use Rattle.overlap.proofs.Words.{few-entries, few-functions, in-domains, entry-read, entries-counted, gid-free, pair-read, stack-short}
+use Rattle.overlap.proofs.Words.{few-entries, few-functions, in-domains, entry-read, entries-counted, context-free, pair-read, stack-short}
 
 -- ---- of a policy: two entries clash exactly where `pairStack` finds a stack
 pub no-stack-no-clash : (p : Policy) (i j : ℕ) → pairStack p i j ≡ [] → NeverBoth p i j
@@ -53,17 +53,17 @@ module _ (ws : List ℕ) (good : wellFormed ws ≡ true) where
     lower-listed : i < entryCount ws
     lower-listed = let a = c .ordered in let b = c .listed in omega arith
 
-    both-match : BothMatch (policyIn ws) i j (record { stack = tableStack ws i j; uid = witnessUid (entryIn ws i) (entryIn ws j); gid = 0 })
+    both-match : BothMatch (policyIn ws) i j (record { stack = tableStack ws i j; uid = witnessUid (entryIn ws i) (entryIn ws j); gid = 0; namespace = 0 })
     unfolding tableStack policyIn
     both-match =
         let some = something-counted (tableStack ws i j) depth (c .written .counted) (c .some) in
-        let s = clash-sound (policyIn ws) (entryIn ws i) (entryIn ws j) (gid-free ws good i lower-listed) (gid-free ws good j (c .listed)) some in
+        let s = clash-sound (policyIn ws) (entryIn ws i) (entryIn ws j) (context-free ws good i lower-listed) (context-free ws good j (c .listed)) some in
         record { one = rw (entry-read ws good i lower-listed) (s .0); other = rw (entry-read ws good j (c .listed)) (s .1) }
 
     least : (m : Moment) → BothMatch (policyIn ws) i j m → NotAfter (take depth new) (m .stack)
     least m both = rw (stack-held, ← (pair-read ws good i j lower-listed (c .listed))) (none-before (policyIn ws) i j m both)
 
-    first-clash : FirstClash (policyIn ws) old new i j depth (witnessUid (entryIn ws i) (entryIn ws j)) 0
+    first-clash : FirstClash (policyIn ws) old new i j depth (witnessUid (entryIn ws i) (entryIn ws j)) 0 0
     unfolding NoneBefore
     first-clash = record {
       ordered = c .ordered;
@@ -75,12 +75,13 @@ module _ (ws : List ℕ) (good : wellFormed ws ≡ true) where
       left = rw stack-held (c .written .left);
       uidIs = rw (entry-read ws good i lower-listed, entry-read ws good j (c .listed));
       gidIs = refl;
+      namespaceIs = refl;
     }
 
   pair-says : (old new : List ℕ) (r : Report) → FirstOfAll ws old new r → Says (policyIn ws) old new r
   unfolding NoneBefore
   pair-says old new Clear t = (t .1, λ i j h k. let l : j < entryCount ws = rw (entries-counted ws) at k in never-both i j h l (t .0 i j h l (inl (omega arith))))
-  pair-says old new (Clash i j depth uid gid) t = rw (t .1, t .2) (first-clash old new i j depth (t .0))
+  pair-says old new (Clash i j depth uid gid namespace) t = rw (t .1, t .2, t .3) (first-clash old new i j depth (t .0))
   pair-says old new (Unreported number) t = t
 
 -- ---- the promise

@@ -82,20 +82,20 @@ trials =
 
 abbrev judged : Outcome → List ℕ → ℕ → ℕ → List ℕ → Verdict
 judged (fields fs) stack operation target allocation =
-    judgeEvent (policyOf fs) operation target (record { stack = stack; uid = 5; gid = 0 }) (record { stack = allocation; uid = 0; gid = 0 })
+    judgeEvent (policyOf fs) operation target (record { stack = stack; uid = 5; gid = 0; namespace = 0 }) (record { stack = allocation; uid = 0; gid = 0; namespace = 0 })
 judged (fault number line) stack operation target allocation = Unjudged number
 
 -- an entry for Bill
 abbrev entry : List Element → Sort → Entry
 entry pattern uid =
-    record { context = record { pattern = pattern; uid = uid; gid = anyone }; subject = 1; calls = every; returns = every; reads = []; writes = [] }
+    record { context = record { pattern = pattern; uid = uid; gid = anyone; namespace = anyone }; subject = 1; calls = every; returns = every; reads = []; writes = [] }
 
 abbrev policy : Entry → Entry → Policy
 policy a b = record { objectDomains = 0; subjectDomains = 3; objects = []; functions = 0 ∷ 1 ∷ 1 ∷ []; entries = a ∷ b ∷ [] }
 
 abbrev report : Policy → List ℕ → Report
 report p [] = Clear
-report p (x ∷ stack) = Clash 0 1 (length (x ∷ stack)) (witnessUid (entryOfPolicy p 0) (entryOfPolicy p 1)) 0
+report p (x ∷ stack) = Clash 0 1 (length (x ∷ stack)) (witnessUid (entryOfPolicy p 0) (entryOfPolicy p 1)) 0 0
 
 -- what a trial claims: the verdict; or what the report says of the two entries, whatever the witness held
 abbrev Claim : Trial → Type 0
@@ -133,7 +133,9 @@ claimed (pair one uid other uid′ []) e =
 claimed (pair one uid other uid′ (x ∷ s)) e =
     let found : pairStack (policy (entry one uid) (entry other uid′)) 0 1 ≡ x ∷ s = cc in
     let short : leb (length (x ∷ s)) witnessWords ≡ true = cc in
-    λ old. two-clash (policy (entry one uid) (entry other uid′)) refl old x s found refl refl (leb-true (length (x ∷ s)) witnessWords short)
+    λ old.
+    two-clash (policy (entry one uid) (entry other uid′)) refl old x s found (record { gid = refl; namespace = refl }) (record { gid = refl; namespace = refl })
+    (leb-true (length (x ∷ s)) witnessWords short)
 
 all-claimed : (ts : List Trial) → map computed ts ≡ map told ts → Claims ts
 all-claimed [] e = tt

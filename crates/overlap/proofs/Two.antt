@@ -3,15 +3,13 @@ use Prim.Native.Nat.{ℕ, _<_, _≤_}
 use native.Mathlib.Omega.{arith}
 use mathlib.Core.Logic.{_⊎_, inl, inr}
 use mathlib.Core.Path.{_≡_, refl, subst₂}
-use mathlib.Core.Bool.{true}
 use mathlib.Core.List.{List, [], _∷_}
 use lib.ListN.{length, take}
 use Rattle.paper.specs.declared.Report.the-variants.{Clear, Clash}
 use Rattle.paper.specs.Limits.{witnessWords}
 use Rattle.paper.specs.Policy.{Policy}
-use Rattle.paper.specs.Match.{sortFits}
 use Rattle.paper.specs.Overlap.{BothMatch, NeverBoth, Says, entryOfPolicy, witnessUid, witnessLeft}
-use Rattle.overlap.specs.Clash.{pairStack}
+use Rattle.overlap.specs.Clash.{pairStack, Free}
 use Rattle.overlap.proofs.Clash.{clash-sound}
 use Rattle.overlap.proofs.Reporting.{no-stack-no-clash, none-before, take-left}
 
@@ -26,18 +24,18 @@ module _ (p : Policy) (two : length (p .entries) ≡ 2) (old : List ℕ) where
   pub two-clear : pairStack p 0 1 ≡ [] → Says p old (witnessLeft [] old) Clear
   two-clear e = (refl, λ i j h k. only-pair i j h k (no-stack-no-clash p 0 1 e))
 
-  module _ (x : ℕ) (s : List ℕ) (found : pairStack p 0 1 ≡ x ∷ s) (gidA : sortFits (entryOfPolicy p 0 .context .gid) 0 ≡ true) (gidB : sortFits (entryOfPolicy p 1 .context .gid) 0 ≡ true) where
-    both-match : BothMatch p 0 1 (record { stack = x ∷ s; uid = witnessUid (entryOfPolicy p 0) (entryOfPolicy p 1); gid = 0 })
+  module _ (x : ℕ) (s : List ℕ) (found : pairStack p 0 1 ≡ x ∷ s) (one : Free (entryOfPolicy p 0 .context)) (other : Free (entryOfPolicy p 1 .context)) where
+    both-match : BothMatch p 0 1 (record { stack = x ∷ s; uid = witnessUid (entryOfPolicy p 0) (entryOfPolicy p 1); gid = 0; namespace = 0 })
     unfolding pairStack
     both-match =
-        let c = clash-sound p (entryOfPolicy p 0) (entryOfPolicy p 1) gidA gidB in
+        let c = clash-sound p (entryOfPolicy p 0) (entryOfPolicy p 1) one other in
         let b = (rw found at c) tt in
         record { one = b .0; other = b .1 }
 
     held : take (length (x ∷ s)) (witnessLeft (x ∷ s) old) ≡ x ∷ s
     held = take-left (x ∷ s) old (witnessLeft (x ∷ s) old) (length (x ∷ s)) refl refl
 
-    pub two-clash : length (x ∷ s) ≤ witnessWords → Says p old (witnessLeft (x ∷ s) old) (Clash 0 1 (length (x ∷ s)) (witnessUid (entryOfPolicy p 0) (entryOfPolicy p 1)) 0)
+    pub two-clash : length (x ∷ s) ≤ witnessWords → Says p old (witnessLeft (x ∷ s) old) (Clash 0 1 (length (x ∷ s)) (witnessUid (entryOfPolicy p 0) (entryOfPolicy p 1)) 0 0)
     two-clash short = record {
       ordered = omega arith;
       listed = omega arith;
@@ -48,6 +46,7 @@ module _ (p : Policy) (two : length (p .entries) ≡ 2) (old : List ℕ) where
       left = rw held;
       uidIs = refl;
       gidIs = refl;
+      namespaceIs = refl;
     }
       where
         nothing-before : (i j : ℕ) → i < j → (i < 0) ⊎ ((i ≡ 0) × (j < 1)) → ⊥

@@ -10,7 +10,7 @@ use lib.ListN.{length, getD, length-take, length-map}
 use borrow.Author.Tests.{eq-eqb, ne-eqb, leb-true, ltb-true, le-leb, lt-leb, not-true, not-false}
 use Rattle.paper.specs.Limits.{mostMembers, mostEntries, mostElements, witnessWords}
 use Rattle.paper.specs.Scalars.{sortNumber}
-use Rattle.paper.specs.Table.{subjectAt, uidAt, gidAt, gidSorts, functionsAt, entryAt, word, subjectDomainCount, functionCount, elementCount, elementIn, sortIn, entryCount}
+use Rattle.paper.specs.Table.{subjectAt, uidAt, gidAt, namespaceAt, gidSorts, functionsAt, entryAt, word, subjectDomainCount, functionCount, elementCount, elementIn, sortIn, entryCount}
 use Rattle.paper.specs.Table.{patternWordsIn, functionDomainsIn, contextIn, entryIn, policyIn, contextFits, wellFormed}
 use Rattle.paper.specs.Match.{sortFits}
 use Rattle.paper.specs.Overlap.{isUser, entryOfPolicy, witnessUid, witnessLeft}
@@ -20,7 +20,7 @@ use Rattle.laws_table.proofs.Formed.{formed, members-below}
 use Rattle.laws_table.proofs.Entries.{entry-context}
 use Rattle.overlap_cells.specs.Best.{InDomains, Lows, bestStack}
 use Rattle.overlap_meeting.specs.Written.{Fits, Written}
-use Rattle.overlap.specs.Clash.{isRoot, apart, mayClash, clashStack, pairStack, tableStack}
+use Rattle.overlap.specs.Clash.{isRoot, apart, mayClash, clashStack, pairStack, tableStack, Free}
 use Rattle.overlap.proofs.Clash.{clash-short}
 
 -- ---- sorts
@@ -132,12 +132,16 @@ module _ (ws : List ℕ) (good : wellFormed ws ≡ true) where
     short-pattern : length (patternWordsIn ws (entryAt k)) ≤ mostElements
     short-pattern = rw length-take (let l = few-elements in omega arith)
 
-    pub gid-free : sortFits (entryIn ws k .context .gid) 0 ≡ true
+    pub context-free : Free (entryIn ws k .context)
     unfolding entryIn contextIn contextFits
-    gid-free =
+    context-free =
         let c = context-good in
-        let l : ltb (word ws (entryAt k + gidAt)) gidSorts ≡ true = search (both-left, both-right) depth 8 in
-        gid-word (word ws (entryAt k + gidAt)) (ltb-true _ _ l)
+        let g : ltb (word ws (entryAt k + gidAt)) gidSorts ≡ true = search (both-left, both-right) depth 8 in
+        let n : ltb (word ws (entryAt k + namespaceAt)) gidSorts ≡ true = search (both-left, both-right) depth 8 in
+        record {
+          gid = gid-word (word ws (entryAt k + gidAt)) (ltb-true _ _ g);
+          namespace = gid-word (word ws (entryAt k + namespaceAt)) (ltb-true _ _ n);
+        }
 
     pub entry-read : entryOfPolicy (policyIn ws) k ≡ entryIn ws k
     unfolding entryOfPolicy policyIn

@@ -6,9 +6,9 @@ use mathlib.Core.List.{List, []}
 use lib.Dec.{eqb}
 use lib.ListN.{length}
 use Rattle.paper.specs.Scalars.{Sort, root, sortNumber}
-use Rattle.paper.specs.Policy.{Entry, Policy}
+use Rattle.paper.specs.Policy.{Context, Entry, Policy}
 use Rattle.paper.specs.Table.{entryIn, functionDomainsIn}
-use Rattle.paper.specs.Match.{Moment, entryMatches}
+use Rattle.paper.specs.Match.{Moment, sortFits, entryMatches}
 use Rattle.paper.specs.Overlap.{isUser, entryOfPolicy}
 use Rattle.overlap_cells.specs.Best.{mostNeeded, bestStack}
 
@@ -39,5 +39,10 @@ tableStack ws i j = clashStack (functionDomainsIn ws) (entryIn ws i) (entryIn ws
 pub record MatchedShort (p : Policy) (a b : Entry) (m : Moment) : Type 0 where
   pub stack : List ℕ
   pub short : length stack ≤ mostNeeded (length (a .context .pattern)) (length (b .context .pattern))
-  pub one : entryMatches p a (record { stack = stack; uid = m .uid; gid = m .gid }) ≡ true
-  pub other : entryMatches p b (record { stack = stack; uid = m .uid; gid = m .gid }) ≡ true
+  pub one : entryMatches p a (record { stack = stack; uid = m .uid; gid = m .gid; namespace = m .namespace }) ≡ true
+  pub other : entryMatches p b (record { stack = stack; uid = m .uid; gid = m .gid; namespace = m .namespace }) ≡ true
+
+-- the context leaves gid and namespace 0
+pub record Free (c : Context) : Type 0 where
+  pub gid : sortFits (c .gid) 0 ≡ true
+  pub namespace : sortFits (c .namespace) 0 ≡ true

@@ -46,5 +46,6 @@ FirstAfter ws old new i (At j depth) = Clashing ws old new i j depth
 -- the first pair that clashes
 abbrev pub FirstOfAll : List ℕ → List ℕ → List ℕ → Report → Type 0
 FirstOfAll ws old new Clear = NoneBefore ws (entryCount ws) 0 × (new ≡ witnessLeft [] old)
-FirstOfAll ws old new (Clash i j depth uid gid) = Clashing ws old new i j depth × (uid ≡ witnessUid (entryIn ws i) (entryIn ws j)) × (gid ≡ 0)
+FirstOfAll ws old new (Clash i j depth uid gid namespace) =
+    Clashing ws old new i j depth × (uid ≡ witnessUid (entryIn ws i) (entryIn ws j)) × (gid ≡ 0) × (namespace ≡ 0)
 FirstOfAll ws old new (Unreported number) = ⊥

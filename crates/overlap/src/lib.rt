@@ -118,7 +118,7 @@ fn uid_for(t: &[u16], i: usize, j: usize) -> u32
 
 fn clash_of(t: &[u16], i: usize, j: usize, depth: usize) -> Report
     requires { ⌜ (i ≤ mostEntries) × (j ≤ mostEntries) × (depth ≤ witnessWords) ⌝ }
-    ensures { λ r. ⌜ r ≡ Clash i j depth (witnessUid (entryIn (now (t .entry)) i) (entryIn (now (t .entry)) j)) 0 ⌝ }
+    ensures { λ r. ⌜ r ≡ Clash i j depth (witnessUid (entryIn (now (t .entry)) i) (entryIn (now (t .entry)) j)) 0 0 ⌝ }
 {
     let uid = uid_for(t, i, j);
     Report::Clash {
@@ -127,6 +127,7 @@ fn clash_of(t: &[u16], i: usize, j: usize, depth: usize) -> Report
         depth: depth as u16,
         uid: uid,
         gid: 0,
+        namespace: 0,
     }
 }
 

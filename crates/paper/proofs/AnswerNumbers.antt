@@ -22,7 +22,7 @@ unfolding verdictPacked packed
 verdicts = refl
 
 reports :
-    map reportPacked (Unreported 40 ∷ Clash 0 1 2 0 0 ∷ Clash 126 127 30 1 0 ∷ Clear ∷ []) ≡ 0x10028 ∷ 0x0002010000020000 ∷ 0x011E7F7E00020000 ∷ 0x30000 ∷ []
+    map reportPacked (Unreported 40 ∷ Clash 0 1 2 0 0 0 ∷ Clash 126 127 30 1 0 0 ∷ Clear ∷ []) ≡ 0x10028 ∷ 0x0002010000020000 ∷ 0x011E7F7E00020000 ∷ 0x30000 ∷ []
 unfolding reportPacked packed clashRest
 reports = refl
 

@@ -10,13 +10,13 @@ use Rattle.paper.specs.Page.{beforeFirst, isLeftEmpty, placesFor, placeO
 use Rattle.paper.specs.Entries.{isAtOne, callContexts, defaultAt, meant, valueAt, fieldsAt, upToNext, stretchesFrom, entriesOf, itemsOf, lineOfEntry}
 use Rattle.paper.specs.Rules.{earlier, earliest, firstWith, passing, oneAt, membersAt, descriptorsOf, descriptorsIn, longPattern, overLimit, repeats, repeated, domainNamed}
 use Rattle.paper.specs.Rules.{membersNamed, subjectLists, objectLists, repeatsInList, namedTwice, domainsAt, identifiersAt, elementNames, allKnown, namesUnknown, unknownName}
-use Rattle.paper.specs.Rules.{inObjectContexts, isUnboundKey, isUnbound, unboundVariable, sameSort, samePrincipal, twinAfter, twinPrincipal, unlessLine, ruled}
+use Rattle.paper.specs.Rules.{inObjectContexts, isUnboundKey, isUnbound, unboundVariable, sameSort, sameSortAt, samePrincipal, twinAfter, twinPrincipal, unlessLine, ruled}
 use Rattle.paper.specs.Policy.{elementOf, contextOf, grantOf, descriptorOf, accessOf, entryOf, memberDomains, policyOf}
 use Rattle.paper.specs.Table.{padded, elementWord, contextWords, bitsWord, setWords, grantWords, entryWords, descriptorWords, wordsOf, elementIn, sortIn, contextIn, isIn}
 use Rattle.paper.specs.Table.{withDomain, grantIn, descriptorIn, firstDescriptor, entryIn, policyIn, zeros, countsFit, membersFit, elementListed, contextFits, grantFits, entryFits}
-use Rattle.paper.specs.Table.{descriptorFits, entriesFit, descriptorsFit, onePrincipal, principalsDiffer, boundBy, variablesBound, wellFormed}
-use Rattle.paper.specs.Match.{liesIn, swallowing, firstMeets, matches, topLiesIn, sortFits, entryMatches, allocatedSortFits, fitsAllocated, isAll, isAnyone, fitsStatic}
-use Rattle.paper.specs.Match.{contextFitsObject, grants, descriptorGrants, someDescriptorGrants}
+use Rattle.paper.specs.Table.{descriptorFits, entriesFit, descriptorsFit, onePrincipal, principalsDiffer, boundAt, boundBy, variablesBound, wellFormed}
+use Rattle.paper.specs.Match.{liesIn, swallowing, firstMeets, matches, topLiesIn, sortFits, sortsFit, entryMatches, allocatedSortFits, allocatedSortsFit}
+use Rattle.paper.specs.Match.{fitsAllocated, isAll, isAnyone, sortsAnyone, fitsStatic, contextFitsObject, grants, descriptorGrants, someDescriptorGrants}
 use Rattle.paper.specs.Verdict.{isCode, targetsOf, targetNumber, targetListed, targetDomain, insideOneDomain, entryGrants, byEntries, verdictOf}
 use Rattle.paper.specs.Overlap.{entryOfPolicy, isUser, witnessUid, witnessLeft, NotAbove, NotAfter}
 use Rattle.paper.specs.Filled.{keyLine, bareLine, writtenLine, valueLine, contextText, itemText, accessText, entryText, filledText}
@@ -32,11 +32,12 @@ unfolding flatMap allOf anyOf upTo countUp same isFrontOf isOne among numberIn o
     beforeFirst isLeftEmpty placesFor placeOf oneSpaceAndValue fieldStep afterKey placeStep unlessEmpty lineStep atEnd pageFrom pageOf isAtOne callContexts
     defaultAt meant valueAt fieldsAt upToNext stretchesFrom entriesOf itemsOf lineOfEntry earlier earliest firstWith passing oneAt membersAt descriptorsOf
     descriptorsIn longPattern overLimit repeats repeated domainNamed membersNamed subjectLists objectLists repeatsInList namedTwice domainsAt identifiersAt
-    elementNames allKnown namesUnknown unknownName inObjectContexts isUnboundKey isUnbound unboundVariable sortNumber sameSort samePrincipal twinAfter twinPrincipal
+    elementNames allKnown namesUnknown unknownName inObjectContexts isUnboundKey isUnbound unboundVariable sortNumber sameSort sameSortAt samePrincipal twinAfter twinPrincipal
     unlessLine ruled elementOf contextOf grantOf descriptorOf accessOf entryOf memberDomains policyOf padded elementWord contextWords bitsWord setWords
     grantWords entryWords descriptorWords wordsOf elementIn sortIn contextIn isIn withDomain grantIn descriptorIn firstDescriptor entryIn policyIn zeros
-    countsFit membersFit elementListed contextFits grantFits entryFits descriptorFits entriesFit descriptorsFit onePrincipal principalsDiffer boundBy variablesBound
-    wellFormed liesIn swallowing firstMeets matches topLiesIn sortFits entryMatches allocatedSortFits fitsAllocated isAll isAnyone fitsStatic contextFitsObject grants
+    countsFit membersFit elementListed contextFits grantFits entryFits descriptorFits entriesFit descriptorsFit onePrincipal principalsDiffer boundAt boundBy variablesBound
+    wellFormed liesIn swallowing firstMeets matches topLiesIn sortFits sortsFit entryMatches allocatedSortFits allocatedSortsFit fitsAllocated
+    isAll isAnyone sortsAnyone fitsStatic contextFitsObject grants
     descriptorGrants someDescriptorGrants isCode targetsOf targetNumber targetListed targetDomain insideOneDomain entryGrants byEntries verdictOf entryOfPolicy
     isUser witnessUid witnessLeft NotAbove NotAfter keyLine bareLine writtenLine valueLine contextText itemText accessText entryText filledText front stretchOf nameAmong textPage
     fileOf readAnswer readLeaves writtenIn fillAnswer fillLeaves accessFor judgeEvent judgeAnswer reportRefusal Reported lookupAnswer lookupNumbered

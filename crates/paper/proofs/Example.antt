@@ -1,4 +1,4 @@
--- Document 01, "A file, filled out".
+-- Document 01, "A file, filled out", with the `namespace` of document 02 g in every context.
 use Prim.Native.Nat.{ℕ}
 use mathlib.Core.Path.{_≡_, refl}
 use mathlib.Core.Bool.{true, false}
@@ -23,9 +23,9 @@ example = exampleMaps ++ bytes "- principal:\n    subject: Bill\n    execution_c
 abbrev pub exampleFilled : List ℕ
 exampleFilled =
     exampleMaps
-    ++ (bytes "- principal:\n    subject: Bill\n    execution_context:\n      call_context: [all]\n      uid: U\n      gid: all\n"
+    ++ (bytes "- principal:\n    subject: Bill\n    execution_context:\n      call_context: [all]\n      uid: U\n      gid: all\n      namespace: all\n"
     ++ (bytes "  can_call: []\n  can_return: [Main]\n  can_read:\n  - objects: [Meter]\n"
-    ++ bytes "    object_context:\n      call_context: [all]\n      uid: all\n      gid: all\n  can_write: []\n"))
+    ++ bytes "    object_context:\n      call_context: [all]\n      uid: all\n      gid: all\n      namespace: all\n  can_write: []\n"))
 
 pub filled-as-told : textFilled (fileOf example) ≡ exampleFilled
 unfolding computing
@@ -50,12 +50,12 @@ examplePolicy =
       functions = 0 ∷ 1 ∷ 1 ∷ [];
       entries =
           record {
-            context = record { pattern = all ∷ []; uid = variable; gid = anyone };
+            context = record { pattern = all ∷ []; uid = variable; gid = anyone; namespace = anyone };
             subject = 1;
             calls = these (false ∷ false ∷ []);
             returns = these (true ∷ false ∷ []);
             reads =
-                record { context = record { pattern = all ∷ []; uid = anyone; gid = anyone }; objects = these (true ∷ []) } ∷ [];
+                record { context = record { pattern = all ∷ []; uid = anyone; gid = anyone; namespace = anyone }; objects = these (true ∷ []) } ∷ [];
             writes = [];
           }
           ∷ [];

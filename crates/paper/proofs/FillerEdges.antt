@@ -35,10 +35,10 @@ refused-outputs : map (λ (t : Trial). fillLeaves (t .given) (room 3)) refused �
 unfolding computing
 refused-outputs = refl
 
--- the first worked file fills 430 bytes
+-- the first worked file fills 472 bytes
 lengths-at-the-edge :
-    map (λ n. fillAnswer example (room n)) (429 ∷ 430 ∷ 431 ∷ []) ++ map (λ n. fillAnswer shortest (room n)) (45 ∷ 46 ∷ [])
-    ≡ Unfilled 30 0 ∷ Written 430 ∷ Written 430 ∷ Unfilled 30 0 ∷ Written 46 ∷ []
+    map (λ n. fillAnswer example (room n)) (471 ∷ 472 ∷ 473 ∷ []) ++ map (λ n. fillAnswer shortest (room n)) (45 ∷ 46 ∷ [])
+    ≡ Unfilled 30 0 ∷ Written 472 ∷ Written 472 ∷ Unfilled 30 0 ∷ Written 46 ∷ []
 unfolding computing
 lengths-at-the-edge = refl
 
@@ -70,6 +70,6 @@ written-is-the-filled-text : (t out : List ℕ) (size : ℕ) → fillAnswer t ou
 unfolding fillLeaves
 written-is-the-filled-text t out size r = rw r
 
-example-written : fillLeaves example (room 431) ≡ exampleFilled ++ room 1
+example-written : fillLeaves example (room 473) ≡ exampleFilled ++ room 1
 unfolding computing
 example-written = refl

@@ -15,7 +15,7 @@ use Rattle.paper.proofs.Computing.{computing}
 use Rattle.paper.proofs.WorkedPolicy.{context, anyContext, item}
 
 abbrev moment : List ℕ → Moment
-moment stack = record { stack = stack; uid = 1; gid = 1 }
+moment stack = record { stack = stack; uid = 1; gid = 1; namespace = 1 }
 
 -- subject domains 0 and 1 of a function each, object domains 0 and 1 of an object each; the entries are for domain 1
 abbrev policy : List Entry → Policy

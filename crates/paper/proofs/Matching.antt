@@ -2,13 +2,13 @@
 use Prim.Native.Nat.{ℕ}
 use mathlib.Core.Path.{_≡_, refl}
 use mathlib.Core.Bool.{Bool, true, false}
-use mathlib.Core.List.{List, [], _∷_, map}
+use mathlib.Core.List.{List, [], _∷_, _++_, map}
 use lib.ListN.{replicate}
 use Rattle.paper.specs.Scalars.{Sort, anyone, variable, root, user}
 use Rattle.paper.specs.Policy.{Element, all, fn, anyIn, Context, every, Policy}
 use Rattle.paper.specs.Match.{Moment, matches, sortFits, allocatedSortFits, entryMatches, contextFitsObject}
 use Rattle.paper.proofs.Computing.{computing}
-use Rattle.paper.proofs.WorkedPolicy.{context, anyContext}
+use Rattle.paper.proofs.WorkedPolicy.{contextWith, context, anyContext}
 
 -- functions 0 and 1 of domain 0, function 2 of domain 1; domain 2 has none
 abbrev inDomains : List ℕ
@@ -94,7 +94,7 @@ unfolding computing
 sorts-of-an-object-context = refl
 
 abbrev moment : List ℕ → ℕ → ℕ → Moment
-moment stack uid gid = record { stack = stack; uid = uid; gid = gid }
+moment stack uid gid = record { stack = stack; uid = uid; gid = gid; namespace = 3 }
 
 -- those functions
 abbrev listed : Policy
@@ -123,18 +123,19 @@ entries-at-moments :
     ∷ matched (context (anyIn 1 ∷ []) anyone anyone) (moment (2 ∷ []) 3 3)
     ∷ matched (context (anyIn 0 ∷ []) anyone anyone) (moment (2 ∷ []) 3 3)
     ∷ matched (context (anyIn 0 ∷ anyIn 1 ∷ []) anyone anyone) (moment (0 ∷ 2 ∷ []) 3 3)
-    -- uid, and gid
+    -- uid, and gid; a variable for the namespace binds anything
+    ∷ matched (contextWith (all ∷ []) anyone anyone variable) (moment (2 ∷ []) 0 0)
     ∷ matched (context (all ∷ []) root anyone) (moment (2 ∷ []) 0 3)
     ∷ matched (context (all ∷ []) root anyone) (moment (2 ∷ []) 3 0)
     ∷ matched (context (all ∷ []) user anyone) (moment (2 ∷ []) 0 3)
     ∷ matched (context (all ∷ []) anyone root) (moment (2 ∷ []) 3 0)
     ∷ matched (context (all ∷ []) anyone root) (moment (2 ∷ []) 0 3)
     ∷ []
-    ≡ true ∷ false ∷ false ∷ false ∷ true ∷ false ∷ false ∷ true ∷ false ∷ true ∷ true ∷ false ∷ false ∷ true ∷ false ∷ []
+    ≡ true ∷ false ∷ false ∷ false ∷ true ∷ false ∷ false ∷ true ∷ false ∷ true ∷ true ∷ true ∷ false ∷ false ∷ true ∷ false ∷ []
 unfolding computing
 entries-at-moments = refl
 
--- an object context, the entry having bound uid 5 and gid 7
+-- an object context, the entry having bound uid 5, gid 7 and namespace 3
 abbrev fits : Context → Moment → Bool
 fits c allocation = contextFitsObject listed c (moment (2 ∷ []) 5 7) allocation
 
@@ -152,8 +153,9 @@ static-objects :
     ∷ context (all ∷ []) root anyone
     ∷ context (all ∷ []) user anyone
     ∷ context (all ∷ []) anyone variable
+    ∷ contextWith (all ∷ []) anyone anyone variable
     ∷ [])
-    ≡ true ∷ true ∷ replicate 8 false
+    ≡ true ∷ true ∷ replicate 9 false
 unfolding computing
 static-objects = refl
 
@@ -175,3 +177,14 @@ allocated-objects :
     ≡ false ∷ true ∷ true ∷ false ∷ true ∷ false ∷ true ∷ false ∷ true ∷ false ∷ true ∷ false ∷ []
 unfolding computing
 allocated-objects = refl
+
+-- the namespace by the namespace, and neither by uid nor by gid (document 02 g)
+abbrev allocatedIn : ℕ → Moment
+allocatedIn namespace = record { stack = 0 ∷ []; uid = 5; gid = 7; namespace = namespace }
+
+allocations-in-namespaces :
+    map (λ (namespace : ℕ). fits (contextWith (all ∷ []) anyone anyone variable) (allocatedIn namespace)) (3 ∷ 5 ∷ 7 ∷ 0 ∷ [])
+    ++ map (λ (namespace : ℕ). fits anyContext (allocatedIn namespace)) (3 ∷ 0 ∷ [])
+    ≡ true ∷ false ∷ false ∷ false ∷ true ∷ true ∷ []
+unfolding computing
+allocations-in-namespaces = refl

@@ -46,7 +46,7 @@ verdictIn a =
     (cond (eqb (a .class) 3) Inside (Granted (a .value))))
 
 abbrev clashIn : ℕ → Report
-clashIn rest = Clash (rest % 256) (rest / 256 % 256) (rest / 65536 % 256) (rest / 16777216) 0
+clashIn rest = Clash (rest % 256) (rest / 256 % 256) (rest / 65536 % 256) (rest / 16777216) 0 0
 
 abbrev reportIn : Parts → Report
 reportIn a =
@@ -91,12 +91,14 @@ module _ (lower higher depth uid : ℕ) (l : lower < 256) (h : higher < 256) (d 
   unfolding clashRest
   uid-in = omega arith
 
-clash-in : (lower higher depth uid gid : ℕ) → ClashFits lower higher depth uid gid → clashIn (clashRest lower higher depth uid) ≡ Clash lower higher depth uid gid
-clash-in lower higher depth uid gid (l, h, d, u, g) = rw (lower-in, higher-in, depth-in, uid-in, g)
+clash-in :
+    (lower higher depth uid gid namespace : ℕ) → ClashFits lower higher depth uid gid namespace
+    → clashIn (clashRest lower higher depth uid) ≡ Clash lower higher depth uid gid namespace
+clash-in lower higher depth uid gid namespace (l, h, d, u, g, n) = rw (lower-in, higher-in, depth-in, uid-in, g, n)
 
 report-in : (r : Report) → ReportFits r → reportIn (reportParts r) ≡ r
 report-in (Unreported number) f = refl
-report-in (Clash lower higher depth uid gid) f = clash-in lower higher depth uid gid f
+report-in (Clash lower higher depth uid gid namespace) f = clash-in lower higher depth uid gid namespace f
 report-in Clear f = refl
 
 -- ---- two answers with one packed number are equal
@@ -117,7 +119,7 @@ one-number-one-verdict v w f g e = sym (verdict-in v) ∙ ap verdictIn (one-numb
 report-parts-fit : (r : Report) → ReportFits r → PartsFit (reportParts r)
 unfolding clashRest
 report-parts-fit (Unreported number) f = (omega arith, f, omega arith)
-report-parts-fit (Clash lower higher depth uid gid) (l, h, d, u, g) = (omega arith, omega arith, omega arith)
+report-parts-fit (Clash lower higher depth uid gid namespace) (l, h, d, u, g, n) = (omega arith, omega arith, omega arith)
 report-parts-fit Clear f = (omega arith, omega arith, omega arith)
 
 pub one-number-one-report : (r s : Report) → ReportFits r → ReportFits s → reportPacked r ≡ reportPacked s → r ≡ s
@@ -149,7 +151,7 @@ verdict-not-zero (Granted entry) e = omega arith
 pub report-not-zero : (r : Report) → reportPacked r ≡ 0 → ⊥
 unfolding reportPacked packed
 report-not-zero (Unreported number) e = omega arith
-report-not-zero (Clash lower higher depth uid gid) e = omega arith
+report-not-zero (Clash lower higher depth uid gid namespace) e = omega arith
 report-not-zero Clear e = omega arith
 
 pub name-not-zero : (s : Stretch) → namePacked s ≡ 0 → ⊥

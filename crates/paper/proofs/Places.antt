@@ -8,7 +8,7 @@ use Rattle.paper.specs.declared.Scalar.the-variants.{DomainName, UidValu
 use Rattle.paper.specs.declared.Value.{Value}
 use Rattle.paper.specs.declared.Value.the-variants.{Keys, NoneOrItems, AllOrKeys, AllNoneOrItems, One, ListOf, SomeOf, ListOrAll}
 use Rattle.paper.specs.Listing.{nowhere, objectMap, objectName, objectMembers, subjectMap, subjectName, subjectMembers, privileges, principal, subjectOfEntry}
-use Rattle.paper.specs.Listing.{executionContext, canCall, canReturn, canRead, canWrite, callContextIn, uidIn, gidIn, objectsIn, objectContextIn, rowAt}
+use Rattle.paper.specs.Listing.{executionContext, canCall, canReturn, canRead, canWrite, callContextIn, uidIn, gidIn, namespaceIn, objectsIn, objectContextIn, rowAt}
 use Rattle.paper.proofs.Computing.{computing}
 
 abbrev keysOf : List ℕ → List String
@@ -22,7 +22,7 @@ abbrev ofEntry : List ℕ
 ofEntry = principal ∷ subjectOfEntry ∷ canCall ∷ canReturn ∷ []
 
 abbrev context : ℕ → List ℕ
-context place = place ∷ callContextIn place ∷ uidIn place ∷ gidIn place ∷ []
+context place = place ∷ callContextIn place ∷ uidIn place ∷ gidIn place ∷ namespaceIn place ∷ []
 
 abbrev access : ℕ → List ℕ
 access place = place ∷ objectsIn place ∷ context (objectContextIn place)
@@ -38,9 +38,9 @@ entry-named = refl
 
 pub contexts-named :
     map (λ place. keysOf (context place)) (executionContext ∷ objectContextIn canRead ∷ objectContextIn canWrite ∷ [])
-    ≡ ("    execution_context:" ∷ "      call_context:" ∷ "      uid:" ∷ "      gid:" ∷ [])
-    ∷ ("    object_context:" ∷ "      call_context:" ∷ "      uid:" ∷ "      gid:" ∷ [])
-    ∷ ("    object_context:" ∷ "      call_context:" ∷ "      uid:" ∷ "      gid:" ∷ [])
+    ≡ ("    execution_context:" ∷ "      call_context:" ∷ "      uid:" ∷ "      gid:" ∷ "      namespace:" ∷ [])
+    ∷ ("    object_context:" ∷ "      call_context:" ∷ "      uid:" ∷ "      gid:" ∷ "      namespace:" ∷ [])
+    ∷ ("    object_context:" ∷ "      call_context:" ∷ "      uid:" ∷ "      gid:" ∷ "      namespace:" ∷ [])
     ∷ []
 unfolding computing
 contexts-named = refl
@@ -76,9 +76,9 @@ entry-takes = refl
 -- "`execution_context` and `object_context` are `all` or one or more of `call_context`, `uid`, `gid`"; "`call_context: []`" is no value
 pub contexts-take :
     map (λ place. takenBy (context place)) (executionContext ∷ objectContextIn canRead ∷ objectContextIn canWrite ∷ [])
-    ≡ (AllOrKeys ∷ SomeOf PatternElement ∷ One UidValue ∷ One GidValue ∷ [])
-    ∷ (AllOrKeys ∷ SomeOf PatternElement ∷ One UidValue ∷ One GidValue ∷ [])
-    ∷ (AllOrKeys ∷ SomeOf PatternElement ∷ One UidValue ∷ One GidValue ∷ [])
+    ≡ (AllOrKeys ∷ SomeOf PatternElement ∷ One UidValue ∷ One GidValue ∷ One GidValue ∷ [])
+    ∷ (AllOrKeys ∷ SomeOf PatternElement ∷ One UidValue ∷ One GidValue ∷ One GidValue ∷ [])
+    ∷ (AllOrKeys ∷ SomeOf PatternElement ∷ One UidValue ∷ One GidValue ∷ One GidValue ∷ [])
     ∷ []
 unfolding computing
 contexts-take = refl
@@ -127,7 +127,12 @@ afterContext = "  can_call:" ∷ "  can_return:" ∷ "  can_read:" ∷ "  can_wr
 
 pub execution-context-followed :
     followers (context executionContext)
-    ≡ afterContext ∷ ("      uid:" ∷ "      gid:" ∷ afterContext) ∷ ("      gid:" ∷ afterContext) ∷ afterContext ∷ []
+    ≡ afterContext
+    ∷ ("      uid:" ∷ "      gid:" ∷ "      namespace:" ∷ afterContext)
+    ∷ ("      gid:" ∷ "      namespace:" ∷ afterContext)
+    ∷ ("      namespace:" ∷ afterContext)
+    ∷ afterContext
+    ∷ []
 unfolding computing
 execution-context-followed = refl
 
@@ -139,8 +144,9 @@ pub reads-followed :
     ≡ ("  can_write:" ∷ "- principal:" ∷ [])
     ∷ ("    object_context:" ∷ afterReads)
     ∷ afterReads
-    ∷ ("      uid:" ∷ "      gid:" ∷ afterReads)
-    ∷ ("      gid:" ∷ afterReads)
+    ∷ ("      uid:" ∷ "      gid:" ∷ "      namespace:" ∷ afterReads)
+    ∷ ("      gid:" ∷ "      namespace:" ∷ afterReads)
+    ∷ ("      namespace:" ∷ afterReads)
     ∷ afterReads
     ∷ []
 unfolding computing
@@ -154,15 +160,16 @@ pub writes-followed :
     ≡ ("- principal:" ∷ [])
     ∷ ("    object_context:" ∷ afterWrites)
     ∷ afterWrites
-    ∷ ("      uid:" ∷ "      gid:" ∷ afterWrites)
-    ∷ ("      gid:" ∷ afterWrites)
+    ∷ ("      uid:" ∷ "      gid:" ∷ "      namespace:" ∷ afterWrites)
+    ∷ ("      gid:" ∷ "      namespace:" ∷ afterWrites)
+    ∷ ("      namespace:" ∷ afterWrites)
     ∷ afterWrites
     ∷ []
 unfolding computing
 writes-followed = refl
 
 abbrev contextKeys : List String
-contextKeys = "      call_context:" ∷ "      uid:" ∷ "      gid:" ∷ []
+contextKeys = "      call_context:" ∷ "      uid:" ∷ "      gid:" ∷ "      namespace:" ∷ []
 
 pub blocks-begin :
     blocks
@@ -197,9 +204,9 @@ pub ends :
     map mayEnd (ofMaps ∷ ofEntry ∷ context executionContext ∷ access canRead ∷ access canWrite ∷ [])
     ≡ (false ∷ false ∷ false ∷ false ∷ false ∷ false ∷ false ∷ true ∷ [])
     ∷ (false ∷ true ∷ true ∷ true ∷ [])
-    ∷ (true ∷ true ∷ true ∷ true ∷ [])
-    ∷ (true ∷ true ∷ true ∷ true ∷ true ∷ true ∷ [])
-    ∷ (true ∷ true ∷ true ∷ true ∷ true ∷ true ∷ [])
+    ∷ (true ∷ true ∷ true ∷ true ∷ true ∷ [])
+    ∷ (true ∷ true ∷ true ∷ true ∷ true ∷ true ∷ true ∷ [])
+    ∷ (true ∷ true ∷ true ∷ true ∷ true ∷ true ∷ true ∷ [])
     ∷ []
 unfolding computing
 ends = refl

@@ -69,6 +69,8 @@ ofKeys =
     ∷ entry "  can_write: all\n  can_write: all\n" 4 11
     ∷ entry "can_call: []\n" 4 10
     ∷ context "      gid: all\n      uid: all\n" 4 12
+    ∷ context "      namespace: all\n      gid: all\n" 4 12
+    ∷ context "      namespace: all\n      namespace: all\n" 4 12
     ∷ privileges (bytes "- principal:\n    execution_context: all\n") 4 9
     ∷ entry "  can_read:\n  - object_context: all\n" 4 11
     ∷ []
@@ -94,12 +96,14 @@ empty =
     ∷ context "      call_context:\n" 9 11
     ∷ context "      uid:\n" 9 11
     ∷ context "      gid:\n" 9 11
+    ∷ context "      namespace:\n" 9 11
     ∷ entry "    execution_context: []\n" 4 10
     ∷ entry "  can_read:\n  - objects:\n    object_context:\n" 9 12
     ∷ entry "  can_read:\n  - objects:\n    object_context: []\n" 4 12
     ∷ entry "  can_read:\n   - objects: []\n" 4 11
     ∷ context "      uid: []\n" 5 11
     ∷ context "      gid: []\n" 5 11
+    ∷ context "      namespace: []\n" 5 11
     ∷ []
 
 -- points 10 to 13: lists, and where a scalar is due
@@ -126,6 +130,8 @@ values =
     ∷ context "      call_context: [any]\n" 8 11
     ∷ context "      call_context: [B]\n" 0 0
     ∷ context "      gid: root\n" 5 11
+    ∷ context "      namespace: root\n" 5 11
+    ∷ context "      namespace: Yard_1\n" 0 0
     ∷ context "      uid: any\n" 0 0
     ∷ context "      uid: 0\n      gid: _\n" 0 0
     ∷ privileges (bytes "- principal: B\n") 4 8

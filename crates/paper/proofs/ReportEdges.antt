@@ -107,7 +107,7 @@ module _ (old new : List ℕ) where
   unfolding computing
   one-entry-clear = (refl, λ i j below listed m both. omega arith)
 
-  two-clash : Says two old (witnessLeft (0 ∷ []) old) (Clash 0 1 1 1 0)
+  two-clash : Says two old (witnessLeft (0 ∷ []) old) (Clash 0 1 1 1 0 0)
   unfolding computing
   two-clash =
       record {
@@ -120,56 +120,60 @@ module _ (old new : List ℕ) where
         left = refl;
         uidIs = refl;
         gidIs = refl;
+        namespaceIs = refl;
       }
 
   -- "clear" is not said of them, nor is a refusal of a table that is none
   two-not-clear : Says two old new Clear → ⊥
   unfolding computing
-  two-not-clear said = said .1 0 1 (omega arith) (omega arith) (record { stack = 0 ∷ []; uid = 1; gid = 0 }) (record { one = refl; other = refl })
+  two-not-clear said = said .1 0 1 (omega arith) (omega arith) (record { stack = 0 ∷ []; uid = 1; gid = 0; namespace = 0 }) (record { one = refl; other = refl })
 
   not-refused : (number : ℕ) → Says two old new (Unreported number) → ⊥
   not-refused number said = said
 
-  -- another uid or gid, another order, a pair that is not there
-  not-another-uid : (depth gid : ℕ) → Says two old new (Clash 0 1 depth 0 gid) → ⊥
+  -- another uid, gid or namespace, another order, a pair that is not there
+  not-another-uid : (depth gid namespace : ℕ) → Says two old new (Clash 0 1 depth 0 gid namespace) → ⊥
   unfolding computing
-  not-another-uid depth gid said = omega (arith, said .uidIs)
+  not-another-uid depth gid namespace said = omega (arith, said .uidIs)
 
-  not-another-gid : (depth uid : ℕ) → Says two old new (Clash 0 1 depth uid 1) → ⊥
-  not-another-gid depth uid said = omega (arith, said .gidIs)
+  not-another-gid : (depth uid namespace : ℕ) → Says two old new (Clash 0 1 depth uid 1 namespace) → ⊥
+  not-another-gid depth uid namespace said = omega (arith, said .gidIs)
 
-  not-the-other-order : (depth uid gid : ℕ) → Says two old new (Clash 1 0 depth uid gid) → ⊥
-  not-the-other-order depth uid gid said = omega (arith, said .ordered)
+  not-another-namespace : (depth uid gid : ℕ) → Says two old new (Clash 0 1 depth uid gid 1) → ⊥
+  not-another-namespace depth uid gid said = omega (arith, said .namespaceIs)
 
-  not-past-the-last : (depth uid gid : ℕ) → Says two old new (Clash 1 2 depth uid gid) → ⊥
-  not-past-the-last depth uid gid said = omega (arith, said .listed)
+  not-the-other-order : (depth uid gid namespace : ℕ) → Says two old new (Clash 1 0 depth uid gid namespace) → ⊥
+  not-the-other-order depth uid gid namespace said = omega (arith, said .ordered)
+
+  not-past-the-last : (depth uid gid namespace : ℕ) → Says two old new (Clash 1 2 depth uid gid namespace) → ⊥
+  not-past-the-last depth uid gid namespace said = omega (arith, said .listed)
 
   -- not a stack over 30, nor one at which they do not match
-  not-over-30 : (uid gid : ℕ) → Says two old new (Clash 0 1 31 uid gid) → ⊥
-  not-over-30 uid gid said = omega (arith, said .short)
+  not-over-30 : (uid gid namespace : ℕ) → Says two old new (Clash 0 1 31 uid gid namespace) → ⊥
+  not-over-30 uid gid namespace said = omega (arith, said .short)
 
-  not-without-a-stack : Says two old new (Clash 0 1 0 1 0) → ⊥
+  not-without-a-stack : Says two old new (Clash 0 1 0 1 0 0) → ⊥
   unfolding computing
   not-without-a-stack said = false≢true (said .both .one)
 
   -- a stack of one frame more than needed, the higher of two functions
-  not-a-longer-stack : Says two old (witnessLeft (0 ∷ 0 ∷ []) old) (Clash 0 1 2 1 0) → ⊥
+  not-a-longer-stack : Says two old (witnessLeft (0 ∷ 0 ∷ []) old) (Clash 0 1 2 1 0 0) → ⊥
   unfolding computing
   not-a-longer-stack said =
-      ⊎-elim (λ l. omega arith) (λ e. omega (arith, e .0)) (said .least (record { stack = 0 ∷ []; uid = 1; gid = 0 }) (record { one = refl; other = refl }))
+      ⊎-elim (λ l. omega arith) (λ e. omega (arith, e .0)) (said .least (record { stack = 0 ∷ []; uid = 1; gid = 0; namespace = 0 }) (record { one = refl; other = refl }))
 
-  not-a-higher-function : Says twoFunctions old (witnessLeft (1 ∷ []) old) (Clash 0 1 1 1 0) → ⊥
+  not-a-higher-function : Says twoFunctions old (witnessLeft (1 ∷ []) old) (Clash 0 1 1 1 0 0) → ⊥
   unfolding computing
   not-a-higher-function said =
       ⊎-elim (λ l. omega arith) (λ e. ⊎-elim (λ l. omega arith) (λ f. omega (arith, f .0)) (e .1))
-      (said .least (record { stack = 0 ∷ []; uid = 1; gid = 0 }) (record { one = refl; other = refl }))
+      (said .least (record { stack = 0 ∷ []; uid = 1; gid = 0; namespace = 0 }) (record { one = refl; other = refl }))
 
   -- "lower entry least, then higher least": of three that all match, not the first and the third
-  not-a-later-pair : (depth uid gid : ℕ) → Says (policy (entry anyone ∷ entry user ∷ entry variable ∷ [])) old new (Clash 0 2 depth uid gid) → ⊥
+  not-a-later-pair : (depth uid gid namespace : ℕ) → Says (policy (entry anyone ∷ entry user ∷ entry variable ∷ [])) old new (Clash 0 2 depth uid gid namespace) → ⊥
   unfolding computing
-  not-a-later-pair depth uid gid said =
-      said .first 0 1 (omega arith) (omega arith) (inr (refl, omega arith)) (record { stack = 0 ∷ []; uid = 1; gid = 0 }) (record { one = refl; other = refl })
+  not-a-later-pair depth uid gid namespace said =
+      said .first 0 1 (omega arith) (omega arith) (inr (refl, omega arith)) (record { stack = 0 ∷ []; uid = 1; gid = 0; namespace = 0 }) (record { one = refl; other = refl })
 
   -- words past 30 as they were
-  what-a-clash-leaves : (p : Policy) (lower higher depth uid gid : ℕ) → Says p old new (Clash lower higher depth uid gid) → new ≡ witnessLeft (take depth new) old
-  what-a-clash-leaves p lower higher depth uid gid said = said .left
+  what-a-clash-leaves : (p : Policy) (lower higher depth uid gid namespace : ℕ) → Says p old new (Clash lower higher depth uid gid namespace) → new ≡ witnessLeft (take depth new) old
+  what-a-clash-leaves p lower higher depth uid gid namespace said = said .left

@@ -95,17 +95,18 @@ fits test ws i v = test (set ws (6 + i) v) 6
 
 contexts-that-fit :
     contextFits context 6
-    -- 16 elements, the last of them a function; uid and gid of their last sort; the highest function, the lowest and the highest subject domain
+    -- 16 elements, the last of them a function; uid, gid and namespace of their last sort; the highest function, the lowest and the highest subject domain
     ∷ fits contextFits (set context (6 + 0) 16) 19 5
     ∷ fits contextFits context 1 3
     ∷ fits contextFits context 2 0
+    ∷ fits contextFits context 3 1
     ∷ fits contextFits context 6 5
     ∷ fits contextFits context 4 1025
     ∷ fits contextFits context 6 1027
     -- the last of 1,024 functions
     ∷ fits contextFits (set context 4 1024) 4 1024
     ∷ []
-    ≡ replicate 8 true
+    ≡ replicate 9 true
 unfolding computing
 contexts-that-fit = refl
 
@@ -116,8 +117,8 @@ contexts-with-one-fault :
     -- the sorts one too high
     ∷ fits contextFits context 1 4
     ∷ fits contextFits context 2 2
-    -- the unused word, the first and the last unused element
-    ∷ fits contextFits context 3 1
+    ∷ fits contextFits context 3 2
+    -- the first and the last unused element
     ∷ fits contextFits context 7 1
     ∷ fits contextFits context 19 1
     -- a function not below the count, first and last
@@ -209,15 +210,22 @@ principals-of-all-pairs = refl
 
 -- ---- "object variables bound as 10 asks"
 
--- the uid and gid sorts of an entry at place 0 and of a descriptor at place 3
+-- the uid and gid sorts of an entry at place 0 and of a descriptor at place 4
 abbrev bound : ℕ → ℕ → ℕ → ℕ → Bool
-bound uid gid uidHere gidHere = boundBy (1 ∷ uid ∷ gid ∷ 1 ∷ uidHere ∷ gidHere ∷ []) 0 3
+bound uid gid uidHere gidHere = boundBy (1 ∷ uid ∷ gid ∷ 0 ∷ 1 ∷ uidHere ∷ gidHere ∷ 0 ∷ []) 0 4
 
 variables-bound :
     bound 1 1 1 1 ∷ bound 1 0 1 0 ∷ bound 0 1 0 1 ∷ bound 0 0 0 0 ∷ bound 2 0 3 0 ∷ bound 0 0 1 0 ∷ bound 0 0 0 1 ∷ bound 0 1 1 0 ∷ bound 1 0 0 1 ∷ bound 2 0 1 0 ∷ bound 3 1 1 1 ∷ []
     ≡ true ∷ true ∷ true ∷ true ∷ true ∷ false ∷ false ∷ false ∷ false ∷ false ∷ false ∷ []
 unfolding computing
 variables-bound = refl
+
+-- the same of the namespace, uid and gid being variables of the entry
+namespaces-bound :
+    map (λ (sort : ℕ). boundBy (1 ∷ 1 ∷ 1 ∷ sort ∷ 1 ∷ 0 ∷ 0 ∷ 1 ∷ []) 0 4) (1 ∷ 0 ∷ []) ++ map (λ (sort : ℕ). boundBy (1 ∷ 1 ∷ 1 ∷ 0 ∷ 1 ∷ 0 ∷ 0 ∷ sort ∷ []) 0 4) (0 ∷ 1 ∷ [])
+    ≡ true ∷ false ∷ true ∷ false ∷ []
+unfolding computing
+namespaces-bound = refl
 
 -- two entries, the second with a read and a write; uid sorts of the entries, and of the two descriptors
 abbrev reading : ℕ → ℕ → ℕ → ℕ → List ℕ

@@ -6,7 +6,7 @@ use mathlib.Core.Bool.{Bool, true, false}
 use mathlib.Core.List.{List, [], _∷_, _++_, map}
 use lib.ListN.{replicate}
 use Rattle.paper.specs.Common.{bytes}
-use Rattle.paper.specs.Listing.{principal, subjectOfEntry, executionContext, canCall, canRead, callContextIn, uidIn, gidIn}
+use Rattle.paper.specs.Listing.{principal, subjectOfEntry, executionContext, canCall, canRead, callContextIn, uidIn, gidIn, namespaceIn}
 use Rattle.paper.specs.Page.{Field}
 use Rattle.paper.specs.Rules.{samePrincipal, twinPrincipal}
 use Rattle.paper.proofs.Computing.{computing}
@@ -24,6 +24,9 @@ uid v = at (uidIn executionContext) (bytes v) 0 ∷ []
 
 abbrev gid : String → List Field
 gid v = at (gidIn executionContext) (bytes v) 0 ∷ []
+
+abbrev namespace : String → List Field
+namespace v = at (namespaceIn executionContext) (bytes v) 0 ∷ []
 
 record Pair : Type 0 where
   one : List Field
@@ -54,18 +57,20 @@ told-apart :
     ∷ pair (uid "root") (uid "user")
     ∷ pair (gid "all") (gid "G")
     ∷ pair (uid "U") (gid "U")
+    ∷ pair (namespace "all") (namespace "N")
+    ∷ pair (gid "U") (namespace "U")
     ∷ [])
-    ≡ replicate 15 false
+    ≡ replicate 17 false
 unfolding computing
 told-apart = refl
 
 -- "omitted and written defaults are the same"; a variable's name, and what is granted, play no part
 one-principal :
     twins
-    (pair [] (pattern "[all]" ++ (uid "all" ++ gid "all"))
+    (pair [] (pattern "[all]" ++ (uid "all" ++ (gid "all" ++ namespace "all")))
     ∷ pair (uid "root") (uid "root" ++ gid "all")
     ∷ pair (uid "user") (uid "user")
-    ∷ pair (uid "U" ++ gid "G") (uid "V" ++ gid "H")
+    ∷ pair (uid "U" ++ (gid "G" ++ namespace "N")) (uid "V" ++ (gid "H" ++ namespace "M"))
     ∷ pair (pattern "[f|h, B, all]") (pattern "[f|h, B, all]")
     ∷ pair (at canCall (bytes "[B]") 3 ∷ at canRead [] 4 ∷ []) (at canCall (bytes "all") 11 ∷ [])
     ∷ [])

@@ -1,4 +1,4 @@
--- 10, limb by limb: "object context variable not the one bound by that entry's same key", of reads and writes, of uid and gid, on the object context's own line.
+-- 10, limb by limb: "object context variable not the one bound by that entry's same key", of reads and writes, of uid, gid and namespace, on the object context's own line.
 use mathlib.Core.Path.{_≡_, refl}
 use mathlib.Core.List.{List, [], _∷_, _++_}
 use Rattle.paper.specs.Common.{bytes}
@@ -12,6 +12,8 @@ bound-nowhere =
     ∷ entryOf (reading "      gid: U\n") 10 13
     ∷ entryOf (writing "      uid: U\n") 10 13
     ∷ entryOf (writing "      gid: U\n") 10 13
+    ∷ entryOf (reading "      namespace: U\n") 10 13
+    ∷ entryOf (writing "      namespace: U\n") 10 13
     -- in a later item too
     ∷ entry "  can_read:\n  - objects: [A]\n  - objects:\n    object_context:\n      call_context: [all]\n      uid: all\n      gid: V\n" 10 16
     ∷ []
@@ -28,6 +30,9 @@ bound-otherwise =
     -- the other key
     ∷ contextOf (bytes "      uid: U\n" ++ reading "      gid: U\n") 10 15
     ∷ contextOf (bytes "      gid: U\n" ++ writing "      uid: U\n") 10 15
+    ∷ contextOf (bytes "      gid: U\n" ++ writing "      namespace: U\n") 10 15
+    ∷ contextOf (bytes "      namespace: U\n" ++ reading "      gid: U\n") 10 15
+    ∷ contextOf (bytes "      namespace: U\n" ++ reading "      namespace: V\n") 10 15
     -- a sort that is no variable
     ∷ contextOf (bytes "      uid: root\n" ++ reading "      uid: U\n") 10 15
     ∷ contextOf (bytes "      uid: user\n" ++ writing "      uid: U\n") 10 15
@@ -44,6 +49,7 @@ variable-bound-otherwise = refl
 abbrev bound : List Trial
 bound =
     contextOf (bytes "      uid: U\n      gid: G\n" ++ (reading "      uid: U\n      gid: G\n" ++ writing "      uid: U\n      gid: G\n")) 0 0
+    ∷ contextOf (bytes "      namespace: N\n" ++ (reading "      namespace: N\n" ++ writing "      namespace: N\n")) 0 0
     -- "One name may be bound as uid and as gid."
     ∷ contextOf (bytes "      uid: U\n      gid: U\n" ++ reading "      gid: U\n") 0 0
     -- what is no variable needs no binding

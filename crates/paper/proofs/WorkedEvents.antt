@@ -22,9 +22,13 @@ abbrev returns : ℕ
 returns = 4
 
 abbrev moment : List ℕ → ℕ → ℕ → Moment
-moment stack uid gid = record { stack = stack; uid = uid; gid = gid }
+moment stack uid gid = record { stack = stack; uid = uid; gid = gid; namespace = 2 }
 
--- a static object: its uid and gid are not looked at
+-- the same in another namespace
+abbrev elsewhere : Moment → ℕ → Moment
+elsewhere m namespace = record { stack = m .stack; uid = m .uid; gid = m .gid; namespace = namespace }
+
+-- a static object: its uid, gid and namespace are not looked at
 abbrev static : Moment
 static = moment [] 9 9
 
@@ -87,7 +91,7 @@ jumps =
     ∷ jump calls 4 (moment (0 ∷ 1 ∷ 2 ∷ 5 ∷ []) 1 7) (Violation 4)
     -- as root entry 3 matches, whose bare `can_return` grants nothing
     ∷ jump returns 4 (moment (0 ∷ 1 ∷ 2 ∷ 5 ∷ []) 0 7) (Violation 4)
-    -- entry 5: `gid: H` binds anything; `can_call` and `can_return` omitted
+    -- entry 5: `gid: H` and `namespace: N` bind anything; `can_call` and `can_return` omitted
     ∷ jump calls 5 (moment (6 ∷ []) 0 9) (Granted 5)
     ∷ jump returns 0 (moment (9 ∷ 9 ∷ 7 ∷ []) 1 0) (Granted 5)
     -- an unlisted top, and an unlisted target
@@ -144,8 +148,11 @@ accesses =
     ∷ access writes 0 (moment (5 ∷ []) 0 7) static (Granted 3)
     ∷ access reads 2 (moment (1 ∷ 5 ∷ []) 1 7) (moment (9 ∷ []) 3 4) (Granted 4)
     ∷ access writes 2 (moment (1 ∷ 5 ∷ []) 1 7) static (Violation 4)
-    -- entry 5 reads Gauges by its third item, nothing by the bare one and the `[]`; it writes all
-    ∷ access reads 1 (moment (6 ∷ []) 5 7) static (Granted 5)
+    -- entry 5 reads Gauges of its own namespace by its third item, nothing by the bare one and the `[]`; it writes all
+    ∷ access reads 1 (moment (6 ∷ []) 5 7) (moment (9 ∷ []) 1 1) (Granted 5)
+    ∷ access reads 1 (elsewhere (moment (6 ∷ []) 5 7) 0) (elsewhere (moment (9 ∷ []) 1 1) 0) (Granted 5)
+    ∷ access reads 1 (moment (6 ∷ []) 5 7) (elsewhere (moment (9 ∷ []) 1 1) 7) (Violation 4)
+    ∷ access reads 1 (moment (6 ∷ []) 5 7) static (Violation 4)
     ∷ access reads 5 (moment (6 ∷ []) 5 7) static (Violation 4)
     ∷ access writes 5 (moment (6 ∷ []) 5 7) static (Granted 5)
     -- there is no object 7, though there is a function 7; Spare holds no object, so no number lies in it

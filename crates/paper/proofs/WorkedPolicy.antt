@@ -9,9 +9,13 @@ use Rattle.paper.proofs.Computing.{computing}
 use Rattle.paper.proofs.Example.{policyRead}
 use Rattle.paper.proofs.Worked.{worked}
 
--- `call_context`, `uid` and `gid`
+-- `call_context`, `uid`, `gid` and `namespace`
+abbrev pub contextWith : List Element → Sort → Sort → Sort → Context
+contextWith pattern uid gid namespace = record { pattern = pattern; uid = uid; gid = gid; namespace = namespace }
+
+-- `namespace: all`
 abbrev pub context : List Element → Sort → Sort → Context
-context pattern uid gid = record { pattern = pattern; uid = uid; gid = gid }
+context pattern uid gid = contextWith pattern uid gid anyone
 
 -- "omitted ones are `[all]`, `all`, `all`"
 abbrev pub anyContext : Context
@@ -81,14 +85,14 @@ workedPolicy =
             writes = [];
           }
           ∷ record {
-            context = context (all ∷ []) anyone variable;
+            context = contextWith (all ∷ []) anyone variable variable;
             subject = 4;
             calls = every;
             returns = every;
             reads =
                 item (these (false ∷ false ∷ false ∷ false ∷ [])) anyContext
                 ∷ item (these (false ∷ false ∷ false ∷ false ∷ [])) anyContext
-                ∷ item (these (true ∷ false ∷ false ∷ false ∷ [])) anyContext
+                ∷ item (these (true ∷ false ∷ false ∷ false ∷ [])) (contextWith (all ∷ []) anyone anyone variable)
                 ∷ [];
             writes = item every anyContext ∷ [];
           }

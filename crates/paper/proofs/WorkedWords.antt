@@ -12,9 +12,13 @@ use Rattle.paper.proofs.WorkedPolicy.{workedPolicy}
 abbrev upTo : ℕ → List ℕ → List ℕ
 upTo n ws = ws ++ replicate (n - length ws) 0
 
--- a context, 20 words: how many elements, uid (0 `all`, 1 a variable, 2 `root`, 3 `user`), gid, and the elements, 0 for `all`, n + 1 for function n and 1,025 + d for subject domain d
+-- a context, 20 words: how many elements, uid (0 `all`, 1 a variable, 2 `root`, 3 `user`), gid, namespace, and the elements, 0 for `all`, n + 1 for function n and 1,025 + d for subject domain d
+abbrev contextWith : ℕ → ℕ → ℕ → ℕ → List ℕ → List ℕ
+contextWith elements uid gid namespace pattern = upTo 20 (elements ∷ uid ∷ gid ∷ namespace ∷ pattern)
+
+-- `namespace: all`
 abbrev context : ℕ → ℕ → ℕ → List ℕ → List ℕ
-context elements uid gid pattern = upTo 20 (elements ∷ uid ∷ gid ∷ 0 ∷ pattern)
+context elements uid gid pattern = contextWith elements uid gid 0 pattern
 
 -- an entry, 44 words: context, subject, how many reads and writes, and two grants: 1 for every domain, or 0 and the set's first word
 abbrev entry : List ℕ → ℕ → ℕ → ℕ → List ℕ → List ℕ → List ℕ
@@ -43,7 +47,7 @@ entries =
     ++ (entry (context 1 2 0 (0 ∷ [])) 3 0 1 every (domains 0)
     -- [all, Boot, all, recv], user: returns to Ctl (bit 4)
     ++ (entry (context 4 3 0 (0 ∷ 1025 ∷ 0 ∷ 6 ∷ [])) 3 1 0 (domains 0) (domains 4)
-    ++ (entry (context 1 0 1 (0 ∷ [])) 4 3 1 every every
+    ++ (entry (contextWith 1 0 1 1 (0 ∷ [])) 4 3 1 every every
     ++ entry (context 1 0 0 (7 ∷ [])) 1 1 1 every every)))))
 
 abbrev descriptors : List ℕ
@@ -62,10 +66,10 @@ descriptors =
     ++ (descriptor anyContext every
     ++ (descriptor anyContext every
     ++ (descriptor anyContext every
-    -- entry 5 reads nothing twice and Gauges (bit 1), and writes
+    -- entry 5 reads nothing twice and Gauges (bit 1) under N, and writes
     ++ (descriptor anyContext (domains 0)
     ++ (descriptor anyContext (domains 0)
-    ++ (descriptor anyContext (domains 1)
+    ++ (descriptor (contextWith 1 0 0 1 (0 ∷ [])) (domains 1)
     ++ (descriptor anyContext every
     -- entry 6 reads and writes
     ++ (descriptor anyContext every ++ descriptor anyContext every)))))))))))))))

@@ -50,10 +50,10 @@ verdictParts (Granted entry) = record { class = 4; value = entry; rest = 0 }
 unfoldable pub clashRest : ℕ → ℕ → ℕ → ℕ → ℕ
 clashRest lower higher depth uid = lower + higher * 256 + depth * 65536 + uid * 16777216
 
--- the overlap report; "gid 0" is not told, being always 0
+-- the overlap report; "gid 0" and the namespace are not told, being always 0
 abbrev pub reportParts : Report → Parts
 reportParts (Unreported number) = refused number noLine
-reportParts (Clash lower higher depth uid gid) = record { class = 2; value = 0; rest = clashRest lower higher depth uid }
+reportParts (Clash lower higher depth uid gid namespace) = record { class = 2; value = 0; rest = clashRest lower higher depth uid }
 reportParts Clear = record { class = 3; value = 0; rest = 0 }
 
 -- name lookup: how long the name is and where it starts; class 1 for "an empty stretch at the front"
@@ -97,11 +97,11 @@ abbrev pub PartsFit : Parts → Type 0
 PartsFit a = (a .class < 65536) × (a .value < 65536) × (a .rest < 4294967296)
 
 -- the pair and the stack's length have room for 8 bits, the uid for one
-abbrev pub ClashFits : ℕ → ℕ → ℕ → ℕ → ℕ → Type 0
-ClashFits lower higher depth uid gid = (lower < 256) × (higher < 256) × (depth < 256) × (uid ≤ 1) × (gid ≡ 0)
+abbrev pub ClashFits : ℕ → ℕ → ℕ → ℕ → ℕ → ℕ → Type 0
+ClashFits lower higher depth uid gid namespace = (lower < 256) × (higher < 256) × (depth < 256) × (uid ≤ 1) × (gid ≡ 0) × (namespace ≡ 0)
 
 -- each number of a report has room
 abbrev pub ReportFits : Report → Type 0
 ReportFits (Unreported number) = number < 65536
-ReportFits (Clash lower higher depth uid gid) = ClashFits lower higher depth uid gid
+ReportFits (Clash lower higher depth uid gid namespace) = ClashFits lower higher depth uid gid namespace
 ReportFits Clear = Unit {0}

@@ -5,7 +5,7 @@ use mathlib.Core.List.{List, [], _∷_, _++_, flatMap}
 use mathlib.Core.Bool.{cond}
 use Rattle.paper.specs.Common.{isEmpty}
 use Rattle.paper.specs.Text.{lineFeed, space}
-use Rattle.paper.specs.Listing.{keyAt, principal, subjectOfEntry, executionContext, canCall, canReturn, canRead, canWrite, callContextIn, uidIn, gidIn, objectsIn, objectContextIn}
+use Rattle.paper.specs.Listing.{keyAt, principal, subjectOfEntry, executionContext, canCall, canReturn, canRead, canWrite, callContextIn, uidIn, gidIn, namespaceIn, objectsIn, objectContextIn}
 use Rattle.paper.specs.Page.{Field}
 use Rattle.paper.specs.Entries.{valueAt, upToNext, entriesOf, itemsOf}
 
@@ -25,10 +25,12 @@ writtenLine f = cond (isEmpty (f .value)) (bareLine (f .place)) (keyLine (f .pla
 unfoldable pub valueLine : ℕ → List Field → List ℕ
 valueLine place fs = keyLine place (valueAt place fs)
 
--- "contexts always get three keys"
+-- "contexts always get three keys", and `namespace` after `gid` (document 02 g)
 unfoldable pub contextText : ℕ → List Field → List ℕ
 contextText place fs =
-    bareLine place ++ (valueLine (callContextIn place) fs ++ (valueLine (uidIn place) fs ++ valueLine (gidIn place) fs))
+    bareLine place
+    ++ (valueLine (callContextIn place) fs
+    ++ (valueLine (uidIn place) fs ++ (valueLine (gidIn place) fs ++ valueLine (namespaceIn place) fs)))
 
 -- an item, "each with `objects`" and its context
 unfoldable pub itemText : ℕ → List Field → List ℕ

@@ -84,7 +84,7 @@ subjectOfEntry = 9
 abbrev pub executionContext : ℕ
 executionContext = 10
 
--- behind a context stand its keys, "`call_context`, `uid`, `gid`"
+-- behind a context stand its keys, "`call_context`, `uid`, `gid`", and "a third number, after `gid` in every context: `namespace`" (document 02 g)
 abbrev pub callContextIn : ℕ → ℕ
 callContextIn context = context + 1
 
@@ -94,9 +94,12 @@ uidIn context = context + 2
 abbrev pub gidIn : ℕ → ℕ
 gidIn context = context + 3
 
+abbrev pub namespaceIn : ℕ → ℕ
+namespaceIn context = context + 4
+
 -- so many places a context takes
 abbrev pub contextPlaces : ℕ
-contextPlaces = 4
+contextPlaces = 5
 
 -- behind `can_read` or `can_write` stand an item's `objects` and its `object_context`
 abbrev pub objectsIn : ℕ → ℕ
@@ -156,13 +159,14 @@ afterCall = canReturn ∷ afterReturn
 abbrev pub afterPrincipal : List ℕ
 afterPrincipal = canCall ∷ afterCall
 
--- a context at place c: "`all` or one or more of `call_context`, `uid`, `gid`"
+-- a context at place c: "`all` or one or more of `call_context`, `uid`, `gid`", and `namespace`, "`all` or a variable, same rules as gid" (document 02 g)
 abbrev pub contextRows : ℕ → String → List ℕ → List Row
 contextRows c key after =
-    row key AllOrKeys (callContextIn c ∷ uidIn c ∷ gidIn c ∷ []) after true
-    ∷ row "      call_context:" (SomeOf PatternElement) [] (uidIn c ∷ gidIn c ∷ after) true
-    ∷ row "      uid:" (One UidValue) [] (gidIn c ∷ after) true
-    ∷ row "      gid:" (One GidValue) [] after true
+    row key AllOrKeys (callContextIn c ∷ uidIn c ∷ gidIn c ∷ namespaceIn c ∷ []) after true
+    ∷ row "      call_context:" (SomeOf PatternElement) [] (uidIn c ∷ gidIn c ∷ namespaceIn c ∷ after) true
+    ∷ row "      uid:" (One UidValue) [] (gidIn c ∷ namespaceIn c ∷ after) true
+    ∷ row "      gid:" (One GidValue) [] (namespaceIn c ∷ after) true
+    ∷ row "      namespace:" (One GidValue) [] after true
     ∷ []
 
 -- `can_read` or `can_write` at place a: "`all`, `[]`, or items, each with `objects`" and perhaps a context

@@ -9,11 +9,12 @@ use Rattle.paper.specs.Common.{isEmpty, allOf, anyOf}
 use Rattle.paper.specs.Scalars.{Sort, anyone, variable, root, user, sortNumber}
 use Rattle.paper.specs.Policy.{Element, all, fn, anyIn, Context, Grant, every, these, Descriptor, Entry, Policy}
 
--- a moment: "a stack (base first, running function last), uid and gid"
+-- a moment: "a stack (base first, running function last), uid and gid", and namespace (document 02 g)
 pub record Moment : Type 0 where
   pub stack : List ℕ
   pub uid : ℕ
   pub gid : ℕ
+  pub namespace : ℕ
 
 -- ---- where a frame's function lies
 
@@ -90,12 +91,13 @@ sortFits variable id = true
 sortFits root id = eqb id 0
 sortFits user id = not (eqb id 0)
 
+-- gid and namespace fit likewise
+unfoldable pub sortsFit : Context → Moment → Bool
+sortsFit c m = sortFits (c .uid) (m .uid) && sortFits (c .gid) (m .gid) && sortFits (c .namespace) (m .namespace)
+
 unfoldable pub entryMatches : Policy → Entry → Moment → Bool
 entryMatches p e m =
-    topLiesIn p (e .subject) (m .stack)
-    && matches (p .functions) (e .context .pattern) (m .stack)
-    && sortFits (e .context .uid) (m .uid)
-    && sortFits (e .context .gid) (m .gid)
+    topLiesIn p (e .subject) (m .stack) && matches (p .functions) (e .context .pattern) (m .stack) && sortsFit (e .context) m
 
 -- ---- "An object context fits an allocated object likewise, a variable there needing the bound number."
 
@@ -106,12 +108,16 @@ allocatedSortFits variable bound id = eqb id bound
 allocatedSortFits root bound id = eqb id 0
 allocatedSortFits user bound id = not (eqb id 0)
 
+-- uid, gid and namespace, each against its own
+unfoldable pub allocatedSortsFit : Context → Moment → Moment → Bool
+allocatedSortsFit c m allocation =
+    allocatedSortFits (c .uid) (m .uid) (allocation .uid)
+    && allocatedSortFits (c .gid) (m .gid) (allocation .gid)
+    && allocatedSortFits (c .namespace) (m .namespace) (allocation .namespace)
+
 -- an allocation at one moment, looked at from another
 unfoldable pub fitsAllocated : Policy → Context → Moment → Moment → Bool
-fitsAllocated p c m allocation =
-    matches (p .functions) (c .pattern) (allocation .stack)
-    && allocatedSortFits (c .uid) (m .uid) (allocation .uid)
-    && allocatedSortFits (c .gid) (m .gid) (allocation .gid)
+fitsAllocated p c m allocation = matches (p .functions) (c .pattern) (allocation .stack) && allocatedSortsFit c m allocation
 
 -- ---- "It fits a static object only with every pattern element `all` and uid and gid `all`."
 
@@ -123,8 +129,12 @@ isAll (anyIn domain) = false
 unfoldable pub isAnyone : Sort → Bool
 isAnyone sort = eqb (sortNumber sort) (sortNumber anyone)
 
+-- "uid and gid `all`", and namespace (document 02 g)
+unfoldable pub sortsAnyone : Context → Bool
+sortsAnyone c = isAnyone (c .uid) && isAnyone (c .gid) && isAnyone (c .namespace)
+
 unfoldable pub fitsStatic : Context → Bool
-fitsStatic c = allOf isAll (c .pattern) && isAnyone (c .uid) && isAnyone (c .gid)
+fitsStatic c = allOf isAll (c .pattern) && sortsAnyone c
 
 -- "An empty allocation stack means a static object; its uid and gid are then not looked at."
 unfoldable pub contextFitsObject : Policy → Context → Moment → Moment → Bool

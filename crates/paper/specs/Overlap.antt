@@ -23,7 +23,7 @@ pub record BothMatch (p : Policy) (i j : ℕ) (m : Moment) : Type 0 where
   pub one : entryMatches p (entryOfPolicy p i) m ≡ true
   pub other : entryMatches p (entryOfPolicy p j) m ≡ true
 
--- "no moment (a stack of one or more functions, of any length, a uid, a gid)"
+-- "no moment (a stack of one or more functions, of any length, a uid, a gid)", and a namespace (document 02 g)
 abbrev pub NeverBoth : Policy → ℕ → ℕ → Type 0
 NeverBoth p i j = (m : Moment) → BothMatch p i j m → ⊥
 
@@ -54,20 +54,22 @@ unfoldable pub NotAfter : List ℕ → List ℕ → Type 0
 NotAfter u v = NotAbove (length u ∷ u) (length v ∷ v)
 
 -- "the first such pair in file order" with a moment "that both match", of at most 30 functions (document 02 h)
-pub record FirstClash (p : Policy) (old new : List ℕ) (lower higher depth uid gid : ℕ) : Type 0 where
+pub record FirstClash (p : Policy) (old new : List ℕ) (lower higher depth uid gid namespace : ℕ) : Type 0 where
   pub ordered : lower < higher
   pub listed : higher < length (p .entries)
   pub first : (i j : ℕ) → i < j → j < length (p .entries) → PairBefore i j lower higher → NeverBoth p i j
-  pub both : BothMatch p lower higher (record { stack = take depth new; uid = uid; gid = gid })
+  pub both : BothMatch p lower higher (record { stack = take depth new; uid = uid; gid = gid; namespace = namespace })
   -- "The stack written must be the shortest that both entries match, and among the shortest the lowest" (document 02 k)
   pub least : (m : Moment) → BothMatch p lower higher m → NotAfter (take depth new) (m .stack)
   pub short : depth ≤ witnessWords
   pub left : new ≡ witnessLeft (take depth new) old
   pub uidIs : uid ≡ witnessUid (entryOfPolicy p lower) (entryOfPolicy p higher)
   pub gidIs : gid ≡ 0
+  -- "(0 in the witness)" (document 02 g)
+  pub namespaceIs : namespace ≡ 0
 
 -- what the report says of a policy, and what it leaves in the witness
 abbrev pub Says : Policy → List ℕ → List ℕ → Report → Type 0
 Says p old new Clear = (new ≡ witnessLeft [] old) × ((i j : ℕ) → i < j → j < length (p .entries) → NeverBoth p i j)
-Says p old new (Clash lower higher depth uid gid) = FirstClash p old new lower higher depth uid gid
+Says p old new (Clash lower higher depth uid gid namespace) = FirstClash p old new lower higher depth uid gid namespace
 Says p old new (Unreported number) = ⊥

@@ -8,7 +8,7 @@ use Rattle.paper.specs.Common.{is, among, numberIn}
 use Rattle.paper.specs.Scalars.{Sort, anyone, sortOf}
 use Rattle.paper.specs.Lists.{elements}
 use Rattle.paper.specs.Listing.{objectName, objectMembers, subjectName, subjectMembers, subjectOfEntry, executionContext}
-use Rattle.paper.specs.Listing.{canCall, canReturn, canRead, canWrite, callContextIn, uidIn, gidIn, objectsIn, objectContextIn}
+use Rattle.paper.specs.Listing.{canCall, canReturn, canRead, canWrite, callContextIn, uidIn, gidIn, namespaceIn, objectsIn, objectContextIn}
 use Rattle.paper.specs.Page.{Field}
 use Rattle.paper.specs.Entries.{valueAt, fieldsAt, entriesOf, itemsOf}
 use Rattle.paper.specs.Rules.{domainsAt, identifiersAt}
@@ -23,6 +23,7 @@ pub record Context : Type 0 where
   pub pattern : List Element
   pub uid : Sort
   pub gid : Sort
+  pub namespace : Sort
 
 -- the domains that are granted: every listed one, or for each domain in order whether it is
 pub data Grant : Type 0 where
@@ -53,7 +54,7 @@ pub record Policy : Type 0 where
 -- no entry at all: what stands where a list of entries has none
 abbrev pub noEntry : Entry
 noEntry =
-    record { context = record { pattern = []; uid = anyone; gid = anyone }; subject = 0; calls = every; returns = every; reads = []; writes = [] }
+    record { context = record { pattern = []; uid = anyone; gid = anyone; namespace = anyone }; subject = 0; calls = every; returns = every; reads = []; writes = [] }
 
 -- "call_context holds function identifiers or `all`", or subject domain names; "Identifiers have a `|` and names don't, so nothing is ambiguous" (document 02 d)
 unfoldable pub elementOf : List (List ℕ) → List (List ℕ) → List ℕ → Element
@@ -67,6 +68,7 @@ contextOf functions domains place fs =
       pattern = map (elementOf functions domains) (elements (valueAt (callContextIn place) fs));
       uid = sortOf (valueAt (uidIn place) fs);
       gid = sortOf (valueAt (gidIn place) fs);
+      namespace = sortOf (valueAt (namespaceIn place) fs);
     }
 
 -- a list of domain names, or `all`, among the domains of a map

@@ -11,7 +11,7 @@ use Rattle.paper.specs.Text.{noLine}
 use Rattle.paper.specs.Scalars.{isVariable, sortOf, sortNumber}
 use Rattle.paper.specs.Lists.{elements}
 use Rattle.paper.specs.Listing.{objectName, objectMembers, subjectName, subjectMembers, principal, subjectOfEntry, executionContext, canCall, canReturn, canRead, canWrite}
-use Rattle.paper.specs.Listing.{callContextIn, uidIn, gidIn, objectsIn, objectContextIn}
+use Rattle.paper.specs.Listing.{callContextIn, uidIn, gidIn, namespaceIn, objectsIn, objectContextIn}
 use Rattle.paper.specs.Page.{Field, Outcome, fields, fault}
 use Rattle.paper.specs.Entries.{isAt, isAtOne, callContexts, valueAt, fieldsAt, entriesOf, itemsOf, lineOfEntry}
 
@@ -152,9 +152,9 @@ unfoldable pub isUnboundKey : (ℕ → ℕ) → List Field → Field → Bool
 isUnboundKey key entry f =
     isAtOne (inObjectContexts key) f && isVariable (f .value) && not (same (f .value) (valueAt (key executionContext) entry))
 
--- the two keys that can hold a variable
+-- the keys that can hold a variable: 10 includes `namespace` (document 02 g)
 unfoldable pub isUnbound : List Field → Field → Bool
-isUnbound entry f = isUnboundKey uidIn entry f || isUnboundKey gidIn entry f
+isUnbound entry f = isUnboundKey uidIn entry f || isUnboundKey gidIn entry f || isUnboundKey namespaceIn entry f
 
 -- 10 over the whole file
 unfoldable pub unboundVariable : List Field → ℕ
@@ -166,13 +166,18 @@ unboundVariable fs = earliest (map (λ entry. firstWith (isUnbound entry) entry)
 unfoldable pub sameSort : List ℕ → List ℕ → Bool
 sameSort a b = eqb (sortNumber (sortOf a)) (sortNumber (sortOf b))
 
--- "Principals are the same when subject and pattern elements are equal and uid and gid are of the same sort"
+-- the two have the same sort at this key of their execution contexts
+unfoldable pub sameSortAt : (ℕ → ℕ) → List Field → List Field → Bool
+sameSortAt key a b = sameSort (valueAt (key executionContext) a) (valueAt (key executionContext) b)
+
+-- "Principals are the same when subject and pattern elements are equal and uid and gid are of the same sort"; 11 includes `namespace` (document 02 g)
 unfoldable pub samePrincipal : List Field → List Field → Bool
 samePrincipal a b =
     same (valueAt subjectOfEntry a) (valueAt subjectOfEntry b)
     && same (valueAt (callContextIn executionContext) a) (valueAt (callContextIn executionContext) b)
-    && sameSort (valueAt (uidIn executionContext) a) (valueAt (uidIn executionContext) b)
-    && sameSort (valueAt (gidIn executionContext) a) (valueAt (gidIn executionContext) b)
+    && sameSortAt uidIn a b
+    && sameSortAt gidIn a b
+    && sameSortAt namespaceIn a b
 
 -- the line of the first entry with the principal of one before it
 unfoldable pub twinAfter : List (List Field) → List (List Field) → ℕ

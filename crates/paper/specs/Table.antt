@@ -51,8 +51,8 @@ uidAt = 1
 abbrev pub gidAt : ℕ
 gidAt = 2
 
-abbrev pub contextSpareAt : ℕ
-contextSpareAt = 3
+abbrev pub namespaceAt : ℕ
+namespaceAt = 3
 
 abbrev pub elementsAt : ℕ
 elementsAt = 4
@@ -64,7 +64,7 @@ contextSize = 20
 abbrev pub firstDomainWord : ℕ
 firstDomainWord = 1025
 
--- the sorts of a uid are `all`, a variable, `root` and `user`; a gid has the first two
+-- the sorts of a uid are `all`, a variable, `root` and `user`; a gid has the first two, and a namespace "same rules as gid" (document 02 g)
 abbrev pub uidSorts : ℕ
 uidSorts = 4
 
@@ -204,7 +204,7 @@ elementWord (anyIn d) = firstDomainWord + d
 -- contexts, sets, grants, entries and descriptors in the order of their layout
 unfoldable pub contextWords : Context → List ℕ
 contextWords c =
-    length (c .pattern) ∷ sortNumber (c .uid) ∷ sortNumber (c .gid) ∷ 0 ∷ padded mostElements (map elementWord (c .pattern))
+    length (c .pattern) ∷ sortNumber (c .uid) ∷ sortNumber (c .gid) ∷ sortNumber (c .namespace) ∷ padded mostElements (map elementWord (c .pattern))
 
 -- some domains as the bits of a word, the first as the lowest
 unfoldable pub bitsWord : List Bool → ℕ
@@ -284,6 +284,7 @@ contextIn ws at =
       pattern = map elementIn (patternWordsIn ws at);
       uid = sortIn (word ws (at + uidAt));
       gid = sortIn (word ws (at + gidAt));
+      namespace = sortIn (word ws (at + namespaceAt));
     }
 
 -- domain d is a bit of a set
@@ -381,7 +382,7 @@ contextFits ws at =
     within 1 mostElements (elementCount ws at)
     && ltb (word ws (at + uidAt)) uidSorts
     && ltb (word ws (at + gidAt)) gidSorts
-    && eqb (word ws (at + contextSpareAt)) 0
+    && ltb (word ws (at + namespaceAt)) gidSorts
     && upTo (λ i. cond (ltb i (elementCount ws at)) (elementListed ws (word ws (at + elementsAt + i))) (eqb (word ws (at + elementsAt + i)) 0)) mostElements
 
 -- `all` with no set, or a set with no bit at or past the count: of word j of it, bits below the count less those of the words before it are used
@@ -420,10 +421,12 @@ unfoldable pub principalsDiffer : List ℕ → Bool
 principalsDiffer ws = upTo (λ k. upTo (λ j. not (onePrincipal ws j k)) k) (entryCount ws)
 
 -- "object variables bound as 10 asks": a variable in a descriptor's context has one at the same key of its entry
+unfoldable pub boundAt : List ℕ → ℕ → ℕ → ℕ → Bool
+boundAt ws entry at key = not (eqb (word ws (at + key)) variableWord) || eqb (word ws (entry + key)) variableWord
+
+-- so have all its keys
 unfoldable pub boundBy : List ℕ → ℕ → ℕ → Bool
-boundBy ws entry at =
-    (not (eqb (word ws (at + uidAt)) variableWord) || eqb (word ws (entry + uidAt)) variableWord)
-    && (not (eqb (word ws (at + gidAt)) variableWord) || eqb (word ws (entry + gidAt)) variableWord)
+boundBy ws entry at = boundAt ws entry at uidAt && boundAt ws entry at gidAt && boundAt ws entry at namespaceAt
 
 unfoldable pub variablesBound : List ℕ → Bool
 variablesBound ws =

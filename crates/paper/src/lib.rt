@@ -124,6 +124,7 @@ pub enum Report {
         depth: u16,
         uid: u32,
         gid: u32,
+        namespace: u32,
     },
     Unreported {
         number: u16,

@@ -97,8 +97,10 @@ struct Event {
     target: u16,
     uid: u32,
     gid: u32,
+    namespace: u32,
     allocation_uid: u32,
     allocation_gid: u32,
+    allocation_namespace: u32,
 }
 
 fn read_event(file: &[u8], at: &mut usize) -> Event {
@@ -106,15 +108,19 @@ fn read_event(file: &[u8], at: &mut usize) -> Event {
     let target = short(file, at);
     let uid = long(file, at);
     let gid = long(file, at);
+    let namespace = long(file, at);
     let allocation_uid = long(file, at);
     let allocation_gid = long(file, at);
+    let allocation_namespace = long(file, at);
     Event {
         operation: operation,
         target: target,
         uid: uid,
         gid: gid,
+        namespace: namespace,
         allocation_uid: allocation_uid,
         allocation_gid: allocation_gid,
+        allocation_namespace: allocation_namespace,
     }
 }
 
@@ -126,9 +132,11 @@ fn judge(event: Event, table: &[u16], stack: &[u16], allocation: &[u16]) -> u32 
         stack,
         event.uid,
         event.gid,
+        event.namespace,
         allocation,
         event.allocation_uid,
         event.allocation_gid,
+        event.allocation_namespace,
     )
 }
 

@@ -41,11 +41,11 @@ pub const UID_AT: usize = 1;
 
 pub const GID_AT: usize = 2;
 
-pub const CONTEXT_SPARE_AT: usize = 3;
+pub const NAMESPACE_AT: usize = 3;
 
 pub const ELEMENTS_AT: usize = 4;
 
-// The sorts of a uid; a gid has the first two.
+// The sorts of a uid; a gid and a namespace have the first two.
 pub const ANYONE: u16 = 0;
 
 pub const VARIABLE: u16 = 1;

@@ -11,7 +11,7 @@ use native.Mathlib.Nat.{div-eq-of-lt, div-lt-iff-lt-mul}
 use lib.Pow.{pow-pos}
 use Rattle.paper.specs.Common.{upTo}
 use Rattle.paper.specs.Limits.{mostElements}
-use Rattle.paper.specs.Table.{setAt, uidAt, gidAt, contextSpareAt, elementsAt, firstDomainWord, uidSorts, gidSorts, variableWord, wordBits}
+use Rattle.paper.specs.Table.{setAt, uidAt, gidAt, namespaceAt, elementsAt, firstDomainWord, uidSorts, gidSorts, variableWord, wordBits}
 use Rattle.paper.specs.Table.{setSize, everyWord}
 use Rattle.paper.specs.Table.{subjectAt, entrySpareAt, callsAt, returnsAt, entryTailAt, entryTailSize, grantAt}
 use Rattle.paper.specs.Table.{descriptorTailAt, descriptorTailSize}
@@ -120,16 +120,16 @@ module _ (ws : List ℕ) (at : ℕ) where
   unfolding contextFits
   gid-of-no-sort g e h = simp (not-below _ gidSorts g e h, and-false)
 
-  pub context-spare-used : (w : ℕ) → w ≡ word ws (at + contextSpareAt) → (w ≡ 0 → ⊥) → false ≡ contextFits ws at
+  pub namespace-of-no-sort : (w : ℕ) → w ≡ word ws (at + namespaceAt) → variableWord < w → false ≡ contextFits ws at
   unfolding contextFits
-  context-spare-used w e h = simp (is-other _ 0 w e h, and-false)
+  namespace-of-no-sort w e h = simp (not-below _ gidSorts w e h, and-false)
 
   pub elements-decide :
       (n u g w : ℕ) (r : Bool) → n ≡ elementCount ws at → 1 ≤ n → n ≤ mostElements → u ≡ word ws (at + uidAt) → u ≤ 3 → g ≡ word ws (at + gidAt) → g ≤ variableWord
-      → w ≡ word ws (at + contextSpareAt) → w ≡ 0 → r ≡ upTo (elementFits ws at) mostElements → r ≡ contextFits ws at
+      → w ≡ word ws (at + namespaceAt) → w ≤ variableWord → r ≡ upTo (elementFits ws at) mostElements → r ≡ contextFits ws at
   unfolding contextFits
   elements-decide n u g w r e l m p p′ q q′ s z h =
-      rw (reaches _ 1 n e l, not-above _ mostElements n e m, is-below _ uidSorts u p (omega arith), is-below _ gidSorts g q (omega arith), is-equal _ 0 w s z) h
+      rw (reaches _ 1 n e l, not-above _ mostElements n e m, is-below _ uidSorts u p (omega arith), is-below _ gidSorts g q (omega arith), is-below _ gidSorts w s (omega arith)) h
 
 -- ---- an entry, a descriptor
 

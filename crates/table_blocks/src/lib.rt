@@ -107,7 +107,7 @@ fn context_fits(t: &[u16], at: usize) -> bool
     if layout::VARIABLE < word(t, at + layout::GID_AT) {
         return false;
     }
-    if word(t, at + layout::CONTEXT_SPARE_AT) != 0 {
+    if layout::VARIABLE < word(t, at + layout::NAMESPACE_AT) {
         return false;
     }
     elements_fit(t, at)

@@ -1,20 +1,20 @@
 -- What the functions of this crate need, as plain laws: the facts that a place in the code has, and what is to be shown there.
 use mathlib.Core.Path.{_≡_, sym}
-use mathlib.Core.Bool.{Bool, true, false, not, _&&_, _||_, and-assoc, and-false}
+use mathlib.Core.Bool.{Bool, true, false, not, _&&_, and-assoc, and-false}
 use mathlib.Core.List.{List}
 use Prim.Native.Nat.{ℕ, _+_, _<_, _≤_}
 use lib.Dec.{eqb, leb}
 use lib.ListN.{length, take, drop}
-use borrow.Author.Tests.{eq-eqb, ne-eqb, lt-ltb, le-ltb, le-leb, lt-leb, not-true, not-false, leb-true}
+use borrow.Author.Tests.{eq-eqb, ne-eqb, lt-ltb, le-ltb, le-leb, lt-leb, leb-true}
 use Rattle.paper.specs.Common.{upTo, same}
 use Rattle.paper.specs.Limits.{mostDomains, mostMembers, mostEntries, mostDescriptors, tableWords}
-use Rattle.paper.specs.Table.{markAt, mark, headSpareAt, headSpareSize, uidAt, gidAt, variableWord}
+use Rattle.paper.specs.Table.{markAt, mark, headSpareAt, headSpareSize, uidAt, gidAt, namespaceAt, variableWord}
 use Rattle.paper.specs.Table.{principalSize, entrySize}
 use Rattle.paper.specs.Table.{descriptorSize, objectsAt, functionsAt, spareAt, spareSize, entryAt, descriptorAt}
 use Rattle.paper.specs.Table.{word, objectDomainCount, subjectDomainCount, objectCount, functionCount, entryCount}
 use Rattle.paper.specs.Table.{readCount, writeCount, firstDescriptor, zeros, countsFit, membersFit, entryFits, descriptorFits}
 use Rattle.paper.specs.Table.{entriesFit}
-use Rattle.paper.specs.Table.{descriptorsFit, onePrincipal, principalsDiffer, boundBy, variablesBound, wellFormed}
+use Rattle.paper.specs.Table.{descriptorsFit, onePrincipal, principalsDiffer, boundAt, boundBy, variablesBound, wellFormed}
 use Rattle.laws.proofs.Tests.{both-left, both-right, upTo-more, upTo-fails, test-fails, tests-again}
 use Rattle.laws.proofs.Chains.{tested-false, tested-true, is-equal, is-other, is-above, not-above}
 use Rattle.table_blocks.specs.Parts.{entryBlockFits, descriptorBlockFits, differsFrom, principalIsNew}
@@ -22,23 +22,28 @@ use Rattle.table_blocks.specs.Parts.{descriptorBound, descriptorsBound, entryBo
 
 -- ---- bound variables
 
-pub variable-bound : (entry object : ℕ) → object ≡ variableWord → eqb entry variableWord ≡ (not (eqb object variableWord) || eqb entry variableWord)
-variable-bound entry object h = rw (eq-eqb object variableWord h)
+module _ (ws : List ℕ) (entry at key o : ℕ) (in-object : o ≡ word ws (at + key)) where
+  pub variable-bound : (e : ℕ) → e ≡ word ws (entry + key) → o ≡ variableWord → eqb e variableWord ≡ boundAt ws entry at key
+  unfolding boundAt
+  variable-bound e in-entry h = rw (← in-object, ← in-entry, eq-eqb o variableWord h)
 
-pub no-variable : (entry object : ℕ) → (object ≡ variableWord → ⊥) → true ≡ (not (eqb object variableWord) || eqb entry variableWord)
-no-variable entry object h = rw (ne-eqb object variableWord h)
+  pub no-variable : (o ≡ variableWord → ⊥) → true ≡ boundAt ws entry at key
+  unfolding boundAt
+  no-variable h = rw (← in-object, ne-eqb o variableWord h)
 
-module _ (ws : List ℕ) (entry at e o : ℕ) (r : Bool) (in-entry : e ≡ word ws (entry + uidAt)) (in-object : o ≡ word ws (at + uidAt))
-    (uid : r ≡ (not (eqb o variableWord) || eqb e variableWord)) where
-  pub uid-unbound : not r ≡ true → false ≡ boundBy ws entry at
+module _ (ws : List ℕ) (entry at : ℕ) (u : Bool) (uid : u ≡ boundAt ws entry at uidAt) where
+  pub uid-unbound : not u ≡ true → false ≡ boundBy ws entry at
   unfolding boundBy
-  uid-unbound h = rw (← in-entry, ← in-object, ← uid, not-true r h)
+  uid-unbound h = rw (tested-false _ u uid h)
 
-  pub gid-decides-bound :
-      (e′ o′ : ℕ) (r′ : Bool) → not r ≡ false → e′ ≡ word ws (entry + gidAt) → o′ ≡ word ws (at + gidAt) → r′ ≡ (not (eqb o′ variableWord) || eqb e′ variableWord)
-      → r′ ≡ boundBy ws entry at
-  unfolding boundBy
-  gid-decides-bound e′ o′ r′ h p q gid = rw (← in-entry, ← in-object, ← uid, not-false r h, ← p, ← q) gid
+  module _ (bound : not u ≡ false) (g : Bool) (gid : g ≡ boundAt ws entry at gidAt) where
+    pub gid-unbound : not g ≡ true → false ≡ boundBy ws entry at
+    unfolding boundBy
+    gid-unbound h = rw (tested-true _ u uid bound, tested-false _ g gid h)
+
+    pub namespace-decides-bound : (r : Bool) → not g ≡ false → r ≡ boundAt ws entry at namespaceAt → r ≡ boundBy ws entry at
+    unfolding boundBy
+    namespace-decides-bound r h e = rw (tested-true _ u uid bound, tested-true _ g gid h) e
 
 -- ---- blocks
 

@@ -14,15 +14,13 @@ use table_blocks::entry_fits;
 use table_blocks::is_zero;
 use table_blocks::members_fit;
 ghost use mathlib.Core.Path.{_≡_};
-ghost use mathlib.Core.Bool.{not, _||_};
 ghost use Prim.Native.Nat.{_+_, _<_, _≤_};
-ghost use lib.Dec.{eqb};
 ghost use Rattle.paper.specs.Common.{upTo};
 ghost use Rattle.paper.specs.Limits.{mostEntries, mostDescriptors};
-ghost use Rattle.paper.specs.Table.{variableWord, descriptorAt, entryCount};
+ghost use Rattle.paper.specs.Table.{descriptorAt, entryCount};
 ghost use Rattle.paper.specs.Table.{countsFit};
 ghost use Rattle.paper.specs.Table.{entriesFit};
-ghost use Rattle.paper.specs.Table.{onePrincipal, boundBy, wellFormed};
+ghost use Rattle.paper.specs.Table.{namespaceAt, onePrincipal, boundAt, boundBy, wellFormed};
 ghost use Rattle.table.specs.Reach.{reach};
 ghost use Rattle.table_blocks.specs.Parts.{entryBlockFits, descriptorBlockFits, principalIsNew, descriptorsBound};
 ghost use Rattle.table_blocks.specs.Parts.{entryBound, blocksFit, restFits};
@@ -139,30 +137,28 @@ fn principals_differ(t: &[u16], entries: usize) -> bool
 }
 
 // A sort that is a variable has one in the entry.
-fn sort_bound(entry: u16, object: u16) -> bool
-    ensures { λ r. ⌜ r ≡ (not (eqb object variableWord) || eqb entry variableWord) ⌝ }
+// A variable in the context at a place has one at the same key of its entry.
+fn bound_at(t: &[u16], entry: usize, at: usize, key: usize) -> bool
+    requires { ⌜ (entry ≤ reach) × (at ≤ reach) × (key ≤ namespaceAt) ⌝ }
+    ensures { λ r. ⌜ r ≡ boundAt (now (t .entry)) entry at key ⌝ }
 {
-    if object == layout::VARIABLE {
-        entry == layout::VARIABLE
-    } else {
-        true
+    if word(t, at + key) == layout::VARIABLE {
+        return word(t, entry + key) == layout::VARIABLE;
     }
+    true
 }
 
 fn bound_by(t: &[u16], entry: usize, at: usize) -> bool
     requires { ⌜ (entry ≤ reach) × (at ≤ reach) ⌝ }
     ensures { λ r. ⌜ r ≡ boundBy (now (t .entry)) entry at ⌝ }
 {
-    if !sort_bound(
-        word(t, entry + layout::UID_AT),
-        word(t, at + layout::UID_AT),
-    ) {
+    if !bound_at(t, entry, at, layout::UID_AT) {
         return false;
     }
-    sort_bound(
-        word(t, entry + layout::GID_AT),
-        word(t, at + layout::GID_AT),
-    )
+    if !bound_at(t, entry, at, layout::GID_AT) {
+        return false;
+    }
+    bound_at(t, entry, at, layout::NAMESPACE_AT)
 }
 
 // The n descriptors of an entry from the first on have their variables bound.

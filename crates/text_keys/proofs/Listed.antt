@@ -16,7 +16,7 @@ pub row-is : (p k : ℕ) (r s : Row) → p ≡ k → r ≡ s → seen s ≡ told
 row-is p k r s e f g = ap seen f ∙ g ∙ ap (λ (n : ℕ). told (rowAt n)) (sym e)
 
 -- past the listing
-pub row-past : (p : ℕ) (r : Row) → 28 ≤ p → r ≡ record { key = Nothing; value = Keys; block = 0; next = 0; last = false } → seen r ≡ told (rowAt p)
+pub row-past : (p : ℕ) (r : Row) → 31 ≤ p → r ≡ record { key = Nothing; value = Keys; block = 0; next = 0; last = false } → seen r ≡ told (rowAt p)
 unfolding rowAt listing placesUpTo
 row-past p r h e = ap seen e ∙ ap told (sym (List·getD-eq-default listing (row "" Keys [] [] false) {n = p} h))
 

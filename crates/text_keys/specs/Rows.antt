@@ -8,7 +8,7 @@ use Rattle.paper.specs.Common.{bytes}
 use Rattle.paper.specs.Listing as paper
 use Rattle.text_keys.specs.declared.rows.Key.{Key}
 use Rattle.text_keys.specs.declared.rows.Key.the-variants.{Nothing, ObjectMap, Name, Objects, SubjectMap, Subjects, Privileges, Principal, Subject, ExecutionContext}
-use Rattle.text_keys.specs.declared.rows.Key.the-variants.{CallContext, Uid, Gid, CanCall, CanReturn, CanRead, ItemObjects, ObjectContext, CanWrite}
+use Rattle.text_keys.specs.declared.rows.Key.the-variants.{CallContext, Uid, Gid, Namespace, CanCall, CanReturn, CanRead, ItemObjects, ObjectContext, CanWrite}
 use Rattle.text_keys.specs.declared.rows.Row.{Row}
 
 -- the text of a key, with its column, its dash and its colon
@@ -26,6 +26,7 @@ keyText ExecutionContext = bytes "    execution_context:"
 keyText CallContext = bytes "      call_context:"
 keyText Uid = bytes "      uid:"
 keyText Gid = bytes "      gid:"
+keyText Namespace = bytes "      namespace:"
 keyText CanCall = bytes "  can_call:"
 keyText CanReturn = bytes "  can_return:"
 keyText CanRead = bytes "  can_read:"

@@ -37,7 +37,9 @@ pub const UID: usize = 2;
 
 pub const GID: usize = 3;
 
-const CONTEXT_PLACES: usize = 4;
+pub const NAMESPACE: usize = 4;
+
+const CONTEXT_PLACES: usize = 5;
 
 // Behind `can_read` or `can_write` stand an item's `objects` and its context.
 pub const ITEM_OBJECTS: usize = 1;
@@ -49,6 +51,8 @@ pub const EXECUTION_CALL_CONTEXT: usize = EXECUTION_CONTEXT + CALL_CONTEXT;
 pub const EXECUTION_UID: usize = EXECUTION_CONTEXT + UID;
 
 pub const EXECUTION_GID: usize = EXECUTION_CONTEXT + GID;
+
+pub const EXECUTION_NAMESPACE: usize = EXECUTION_CONTEXT + NAMESPACE;
 
 pub const CAN_CALL: usize = EXECUTION_CONTEXT + CONTEXT_PLACES;
 
@@ -66,6 +70,8 @@ pub const READ_UID: usize = READ_CONTEXT + UID;
 
 pub const READ_GID: usize = READ_CONTEXT + GID;
 
+pub const READ_NAMESPACE: usize = READ_CONTEXT + NAMESPACE;
+
 pub const CAN_WRITE: usize = READ_CONTEXT + CONTEXT_PLACES;
 
 pub const WRITE_OBJECTS: usize = CAN_WRITE + ITEM_OBJECTS;
@@ -78,6 +84,8 @@ pub const WRITE_UID: usize = WRITE_CONTEXT + UID;
 
 pub const WRITE_GID: usize = WRITE_CONTEXT + GID;
 
+pub const WRITE_NAMESPACE: usize = WRITE_CONTEXT + NAMESPACE;
+
 // The next place of a list stands one byte higher.
 const THEN: usize = 256;
 
@@ -86,35 +94,41 @@ const NONE: usize = 0;
 // What may follow the fields of an entry, from the last to the first.
 const AFTER_WRITE: usize = PRINCIPAL;
 
-const AFTER_WRITE_GID: usize = WRITE_OBJECTS + THEN * AFTER_WRITE;
+const AFTER_WRITE_CONTEXT: usize = WRITE_OBJECTS + THEN * AFTER_WRITE;
+
+const AFTER_WRITE_GID: usize = WRITE_NAMESPACE + THEN * AFTER_WRITE_CONTEXT;
 
 const AFTER_WRITE_UID: usize = WRITE_GID + THEN * AFTER_WRITE_GID;
 
 const AFTER_WRITE_CALL: usize = WRITE_UID + THEN * AFTER_WRITE_UID;
 
-const AFTER_WRITE_OBJECTS: usize = WRITE_CONTEXT + THEN * AFTER_WRITE_GID;
+const AFTER_WRITE_OBJECTS: usize = WRITE_CONTEXT + THEN * AFTER_WRITE_CONTEXT;
 
 const AFTER_READ: usize = CAN_WRITE + THEN * AFTER_WRITE;
 
-const AFTER_READ_GID: usize = READ_OBJECTS + THEN * AFTER_READ;
+const AFTER_READ_CONTEXT: usize = READ_OBJECTS + THEN * AFTER_READ;
+
+const AFTER_READ_GID: usize = READ_NAMESPACE + THEN * AFTER_READ_CONTEXT;
 
 const AFTER_READ_UID: usize = READ_GID + THEN * AFTER_READ_GID;
 
 const AFTER_READ_CALL: usize = READ_UID + THEN * AFTER_READ_UID;
 
-const AFTER_READ_OBJECTS: usize = READ_CONTEXT + THEN * AFTER_READ_GID;
+const AFTER_READ_OBJECTS: usize = READ_CONTEXT + THEN * AFTER_READ_CONTEXT;
 
 const AFTER_RETURN: usize = CAN_READ + THEN * AFTER_READ;
 
 const AFTER_CALL: usize = CAN_RETURN + THEN * AFTER_RETURN;
 
-const AFTER_EXECUTION_GID: usize = CAN_CALL + THEN * AFTER_CALL;
+const AFTER_EXECUTION_CONTEXT: usize = CAN_CALL + THEN * AFTER_CALL;
+
+const AFTER_EXECUTION_GID: usize = EXECUTION_NAMESPACE + THEN * AFTER_EXECUTION_CONTEXT;
 
 const AFTER_EXECUTION_UID: usize = EXECUTION_GID + THEN * AFTER_EXECUTION_GID;
 
 const AFTER_EXECUTION_CALL: usize = EXECUTION_UID + THEN * AFTER_EXECUTION_UID;
 
-const AFTER_SUBJECT: usize = EXECUTION_CONTEXT + THEN * AFTER_EXECUTION_GID;
+const AFTER_SUBJECT: usize = EXECUTION_CONTEXT + THEN * AFTER_EXECUTION_CONTEXT;
 
 // What may follow a map's lists, and what the blocks of the contexts begin with.
 const AFTER_OBJECT_MEMBERS: usize = OBJECT_NAME + THEN * SUBJECT_MAP;
@@ -122,11 +136,13 @@ const AFTER_OBJECT_MEMBERS: usize = OBJECT_NAME + THEN * SUBJECT_MAP;
 const AFTER_SUBJECT_MEMBERS: usize = SUBJECT_NAME + THEN * PRIVILEGES;
 
 const EXECUTION_KEYS: usize = EXECUTION_CALL_CONTEXT
-    + THEN * (EXECUTION_UID + THEN * EXECUTION_GID);
+    + THEN * (EXECUTION_UID + THEN * (EXECUTION_GID + THEN * EXECUTION_NAMESPACE));
 
-const READ_KEYS: usize = READ_CALL_CONTEXT + THEN * (READ_UID + THEN * READ_GID);
+const READ_KEYS: usize = READ_CALL_CONTEXT
+    + THEN * (READ_UID + THEN * (READ_GID + THEN * READ_NAMESPACE));
 
-const WRITE_KEYS: usize = WRITE_CALL_CONTEXT + THEN * (WRITE_UID + THEN * WRITE_GID);
+const WRITE_KEYS: usize = WRITE_CALL_CONTEXT
+    + THEN * (WRITE_UID + THEN * (WRITE_GID + THEN * WRITE_NAMESPACE));
 
 // The keys of the listing; `key_asked` has their texts.
 pub enum Key {
@@ -143,6 +159,7 @@ pub enum Key {
     CallContext,
     Uid,
     Gid,
+    Namespace,
     CanCall,
     CanReturn,
     CanRead,
@@ -267,24 +284,31 @@ pub fn row_at(place: usize) -> Row
         PRIVILEGES => items(Key::Privileges, PRINCIPAL, NONE, true),
         PRINCIPAL => block(Key::Principal, SUBJECT),
         SUBJECT => field(Key::Subject, NAME, AFTER_SUBJECT),
-        EXECUTION_CONTEXT => context(Key::ExecutionContext, EXECUTION_KEYS, AFTER_EXECUTION_GID),
+        EXECUTION_CONTEXT => context(
+            Key::ExecutionContext,
+            EXECUTION_KEYS,
+            AFTER_EXECUTION_CONTEXT,
+        ),
         EXECUTION_CALL_CONTEXT => field(Key::CallContext, PATTERN, AFTER_EXECUTION_CALL),
         EXECUTION_UID => field(Key::Uid, UID_VALUE, AFTER_EXECUTION_UID),
         EXECUTION_GID => field(Key::Gid, GID_VALUE, AFTER_EXECUTION_GID),
+        EXECUTION_NAMESPACE => field(Key::Namespace, GID_VALUE, AFTER_EXECUTION_CONTEXT),
         CAN_CALL => field(Key::CanCall, NAMES, AFTER_CALL),
         CAN_RETURN => field(Key::CanReturn, NAMES, AFTER_RETURN),
         CAN_READ => access(Key::CanRead, READ_OBJECTS, AFTER_READ),
         READ_OBJECTS => field(Key::ItemObjects, NAMES, AFTER_READ_OBJECTS),
-        READ_CONTEXT => context(Key::ObjectContext, READ_KEYS, AFTER_READ_GID),
+        READ_CONTEXT => context(Key::ObjectContext, READ_KEYS, AFTER_READ_CONTEXT),
         READ_CALL_CONTEXT => field(Key::CallContext, PATTERN, AFTER_READ_CALL),
         READ_UID => field(Key::Uid, UID_VALUE, AFTER_READ_UID),
         READ_GID => field(Key::Gid, GID_VALUE, AFTER_READ_GID),
+        READ_NAMESPACE => field(Key::Namespace, GID_VALUE, AFTER_READ_CONTEXT),
         CAN_WRITE => access(Key::CanWrite, WRITE_OBJECTS, AFTER_WRITE),
         WRITE_OBJECTS => field(Key::ItemObjects, NAMES, AFTER_WRITE_OBJECTS),
-        WRITE_CONTEXT => context(Key::ObjectContext, WRITE_KEYS, AFTER_WRITE_GID),
+        WRITE_CONTEXT => context(Key::ObjectContext, WRITE_KEYS, AFTER_WRITE_CONTEXT),
         WRITE_CALL_CONTEXT => field(Key::CallContext, PATTERN, AFTER_WRITE_CALL),
         WRITE_UID => field(Key::Uid, UID_VALUE, AFTER_WRITE_UID),
         WRITE_GID => field(Key::Gid, GID_VALUE, AFTER_WRITE_GID),
+        WRITE_NAMESPACE => field(Key::Namespace, GID_VALUE, AFTER_WRITE_CONTEXT),
         _ => required(Key::Nothing, Value::Keys, NONE),
     }
 }

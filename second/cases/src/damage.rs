@@ -132,11 +132,8 @@ fn unbind(dice: &mut Dice, draft: &mut Draft) {
     let word = dice.word(&["U", "V", "W", "any", "0"]).to_string();
     let mut all = contexts(draft);
     let place = dice.below(all.len());
-    if let Some(Context::Keys { uid, gid, .. }) = all.get_mut(place) {
-        match dice.percent(50) {
-            true => *uid = Some(word),
-            false => *gid = Some(word),
-        }
+    if let Some(Context::Keys { values, .. }) = all.get_mut(place) {
+        *dice.pick_mut(values) = Some(word);
     }
 }
 
@@ -237,24 +234,15 @@ fn variable(dice: &mut Dice, draft: &mut Draft) {
         return;
     }
     let place = dice.below(contexts.len());
-    let (mut new_uid, mut new_gid) = (None, None);
-    if dice.percent(50) {
-        new_uid = Some(word);
-    } else {
-        new_gid = Some(word);
+    let context = &mut *contexts[place];
+    if !matches!(context, Context::Keys { .. }) {
+        *context = Context::Keys {
+            call_context: None,
+            values: [None, None, None],
+        };
     }
-    match &mut *contexts[place] {
-        Context::Keys { uid, gid, .. } => {
-            *uid = new_uid.or(uid.take());
-            *gid = new_gid.or(gid.take());
-        }
-        other => {
-            *other = Context::Keys {
-                call_context: None,
-                uid: new_uid,
-                gid: new_gid,
-            }
-        }
+    if let Context::Keys { values, .. } = context {
+        *dice.pick_mut(values) = Some(word);
     }
 }
 
@@ -269,8 +257,7 @@ fn repeat_entry(dice: &mut Dice, draft: &mut Draft) {
     new.context = match old.context {
         Context::Omitted | Context::All if dice.percent(60) => Context::Keys {
             call_context: Some(vec!["all".to_string()]),
-            uid: None,
-            gid: Some("all".to_string()),
+            values: [(); 3].map(|()| dice.percent(50).then(|| "all".to_string())),
         },
         context => context,
     };
@@ -337,7 +324,7 @@ fn scalar(dice: &mut Dice, draft: &mut Draft) {
     }
 }
 
-const KEYS: [&str; 14] = [
+const KEYS: [&str; 15] = [
     "object_map",
     "subject_map",
     "privileges",
@@ -350,6 +337,7 @@ const KEYS: [&str; 14] = [
     "call_context",
     "uid",
     "gid",
+    "namespace",
     "can_read",
     "object_context",
 ];

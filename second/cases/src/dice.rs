@@ -48,6 +48,10 @@ impl Dice {
         &from[self.below(from.len())]
     }
 
+    pub fn pick_mut<'a, T>(&mut self, from: &'a mut [T]) -> &'a mut T {
+        &mut from[self.below(from.len())]
+    }
+
     /// One of some words.
     pub fn word(&mut self, from: &[&'static str]) -> &'static str {
         from[self.below(from.len())]

@@ -24,10 +24,13 @@ pub enum Context {
     All,
     Keys {
         call_context: Option<Vec<String>>,
-        uid: Option<String>,
-        gid: Option<String>,
+        /// What stands at each of `KEYS`.
+        values: [Option<String>; 3],
     },
 }
+
+/// The keys of a context after its pattern, in their order.
+pub const KEYS: [&str; 3] = ["uid", "gid", "namespace"];
 
 #[derive(Clone, Debug)]
 pub struct Item {
@@ -68,15 +71,12 @@ const VARIABLES: [&str; 5] = ["U", "V", "any", "0", "guid"];
 const PATHS: [&str; 5] = ["m.c", "/src/b.c", "a-b", "$", "\\x"];
 
 impl Context {
-    /// Whether a variable is bound here, and which.
-    fn bound(&self) -> (Option<String>, Option<String>) {
-        let variable = |word: &Option<String>| {
-            let is_sort = |w: &String| matches!(w.as_str(), "all" | "root" | "user");
-            word.clone().filter(|w| !is_sort(w))
-        };
+    /// Which variable is bound at each key, if any.
+    fn bound(&self) -> [Option<String>; 3] {
+        let is_variable = |word: &String| !matches!(word.as_str(), "all" | "root" | "user");
         match self {
-            Context::Keys { uid, gid, .. } => (variable(uid), variable(gid)),
-            _ => (None, None),
+            Context::Keys { values, .. } => values.clone().map(|word| word.filter(is_variable)),
+            _ => [None, None, None],
         }
     }
 
@@ -84,20 +84,23 @@ impl Context {
     fn principal(&self) -> String {
         let Context::Keys {
             call_context,
-            uid,
-            gid,
+            values,
         } = self
         else {
-            return "[all] all all".to_string();
+            return "[all] all all all".to_string();
         };
-        let (bound_uid, bound_gid) = self.bound();
-        let sort = |word: &Option<String>, bound: Option<String>| match bound {
-            Some(_) => "variable".to_string(),
-            None => word.clone().unwrap_or("all".to_string()),
+        let mut told = match call_context {
+            Some(elements) => format!("[{}]", elements.join(", ")),
+            None => "[all]".to_string(),
         };
-        let pattern = call_context.clone().unwrap_or(vec!["all".to_string()]);
-        let (uid, gid) = (sort(uid, bound_uid), sort(gid, bound_gid));
-        format!("[{}] {uid} {gid}", pattern.join(", "))
+        for (word, bound) in values.iter().zip(self.bound()) {
+            told += " ";
+            told += match bound {
+                Some(_) => "=",
+                None => word.as_deref().unwrap_or("all"),
+            };
+        }
+        told
     }
 }
 
@@ -124,6 +127,9 @@ pub fn draft(dice: &mut Dice) -> Draft {
     if dice.percent(20) {
         restate(dice, &mut draft);
     }
+    if dice.percent(20) {
+        bind_namespace(dice, &mut draft);
+    }
     let mut seen = HashSet::new();
     draft
         .entries
@@ -148,6 +154,27 @@ fn restate(dice: &mut Dice, draft: &mut Draft) {
     let element = dice.below(elements.len());
     if let Some(other) = other_way(dice, &draft.subjects, &elements[element]) {
         elements[element] = other;
+        draft.entries.push(again);
+    }
+}
+
+/// An entry again that binds its namespace, if it does not yet.
+fn bind_namespace(dice: &mut Dice, draft: &mut Draft) {
+    let place = dice.below(draft.entries.len());
+    let Some(mut again) = draft.entries.get(place).cloned() else {
+        return;
+    };
+    let variable = Some(dice.word(&VARIABLES).to_string());
+    match &mut again.context {
+        Context::Keys { values, .. } => values[2] = variable,
+        other => {
+            *other = Context::Keys {
+                call_context: None,
+                values: [None, None, variable],
+            }
+        }
+    }
+    if draft.entries[place].context.bound()[2].is_none() {
         draft.entries.push(again);
     }
 }
@@ -285,30 +312,38 @@ fn context(dice: &mut Dice, draft: &Draft, outer: Option<&Context>) -> Context {
         _ => {}
     }
     let variables = match outer {
-        None => {
-            let uid = dice.word(&VARIABLES).to_string();
-            (Some(uid), Some(dice.word(&VARIABLES).to_string()))
-        }
+        // Few words, so that one is often bound at several keys.
+        None => [(); 3].map(|()| Some(dice.word(&VARIABLES).to_string())),
         Some(outer) => outer.bound(),
     };
     let call_context = dice.percent(70).then(|| pattern(dice, draft));
-    let uid = dice.percent(60).then(|| {
-        let sort = dice.word(&["all", "root", "user", "user"]).to_string();
-        let variable = variables.0.filter(|_| dice.percent(55));
-        variable.unwrap_or(sort)
-    });
-    let gid = dice.percent(40).then(|| {
-        let variable = variables.1.filter(|_| dice.percent(60));
-        variable.unwrap_or("all".to_string())
-    });
-    if call_context.is_none() && uid.is_none() && gid.is_none() {
+    let [uid, gid, namespace] = variables;
+    let values = [
+        value(dice, 60, &["all", "root", "user", "user"], uid),
+        value(dice, 40, &["all"], gid),
+        value(dice, 40, &["all"], namespace),
+    ];
+    if call_context.is_none() && values.iter().all(Option::is_none) {
         return Context::All;
     }
     Context::Keys {
         call_context,
-        uid,
-        gid,
+        values,
     }
+}
+
+/// What stands at a key, in so many of a hundred contexts: this variable, if
+/// there is one, or a word that is none.
+fn value(
+    dice: &mut Dice,
+    chance: usize,
+    words: &[&'static str],
+    variable: Option<String>,
+) -> Option<String> {
+    dice.percent(chance).then(|| {
+        let word = dice.word(words).to_string();
+        variable.filter(|_| dice.percent(58)).unwrap_or(word)
+    })
 }
 
 /// Elements of all three sorts; an entry has a subject, so there is a domain.

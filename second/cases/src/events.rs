@@ -12,9 +12,11 @@ pub struct OwnEvent {
     pub stack: Vec<u16>,
     pub uid: u32,
     pub gid: u32,
+    pub namespace: u32,
     pub allocation: Vec<u16>,
     pub allocation_uid: u32,
     pub allocation_gid: u32,
+    pub allocation_namespace: u32,
 }
 
 impl OwnEvent {
@@ -23,9 +25,11 @@ impl OwnEvent {
             stack: &self.stack,
             uid: self.uid,
             gid: self.gid,
+            namespace: self.namespace,
             allocation: &self.allocation,
             allocation_uid: self.allocation_uid,
             allocation_gid: self.allocation_gid,
+            allocation_namespace: self.allocation_namespace,
         }
     }
 }
@@ -60,16 +64,18 @@ pub fn event(dice: &mut Dice, policy: Option<&Policy>) -> OwnEvent {
         0..=3 => Vec::new(),
         _ => self::stack(dice, functions, object),
     };
-    let (uid, gid) = (*dice.pick(&IDS), *dice.pick(&IDS));
+    let [uid, gid, namespace] = [(); 3].map(|()| *dice.pick(&IDS));
     OwnEvent {
         operation,
         target: number(dice, count),
         stack,
         uid,
         gid,
+        namespace,
         allocation,
         allocation_uid: like(dice, uid),
         allocation_gid: like(dice, gid),
+        allocation_namespace: like(dice, namespace),
     }
 }
 

@@ -1,11 +1,11 @@
 //! The texts that are stored for the filler, each with how many bytes of an
 //! output are lent: document 01's example, a file of nothing, every field put in
 //! every way, the limits of whole texts, line ends of every sort, domain names in
-//! patterns, and short texts of every sort.
+//! patterns, namespaces, and short texts of every sort.
 
 use crate::dice::Dice;
 use crate::draft::{Access, Context, Domain, Draft, Entry, Grant, Item};
-use crate::{ends, limits, patterns, texts, write};
+use crate::{ends, limits, namespaces, patterns, texts, write};
 use second::refusal::{
     BYTE, COUNT, EMPTY, LAYOUT, SAME_PRINCIPAL, SCALAR, TWICE, UNBOUND, UNKNOWN,
 };
@@ -18,7 +18,7 @@ pub type Filling = (Vec<u8>, usize);
 const SHORT: usize = 500;
 
 /// How many short texts there are.
-const SHORT_TEXTS: usize = 72;
+const SHORT_TEXTS: usize = 54;
 
 /// What a short text can be refused with: for a line of it, then by the rules
 /// over the whole file.
@@ -45,6 +45,7 @@ pub fn all(seed: u64) -> Vec<Filling> {
     all.push((limits::text(limits::LONG_TEXT, true).0, 0));
     all.extend(ends::stored().into_iter().map(exact));
     all.extend(patterns::stored().into_iter().map(exact));
+    all.extend(namespaces::stored().into_iter().map(exact));
     all.extend((0..SHORT_TEXTS).map(|case| short(case, &mut Dice::of_case(seed, case as u64))));
     all
 }
@@ -144,14 +145,14 @@ fn grants(name: &str) -> [Grant; 5] {
     ]
 }
 
-/// Omitted, `all`, or some of the three keys.
+/// Omitted, `all`, or some of the four keys.
 fn contexts() -> Vec<Context> {
     let keys = |some: u8| Context::Keys {
         call_context: (some & 1 != 0).then(|| vec!["s|a".to_string(), "all".to_string()]),
-        uid: (some & 2 != 0).then(|| "user".to_string()),
-        gid: (some & 4 != 0).then(|| "all".to_string()),
+        values: [(2, "user"), (4, "all"), (8, "all")]
+            .map(|(bit, value)| (some & bit != 0).then(|| value.to_string())),
     };
     let mut contexts = vec![Context::Omitted, Context::All];
-    contexts.extend((1..8).map(keys));
+    contexts.extend((1..16).map(keys));
     contexts
 }

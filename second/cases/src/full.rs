@@ -4,7 +4,7 @@
 use crate::dice::Dice;
 use crate::events::OwnEvent;
 use second::policy::{
-    first_repeat, Context, Descriptor, Element, Entry, Gid, Grant, Policy, Uid, DESCRIPTORS,
+    first_repeat, Context, Descriptor, Element, Entry, Grant, Policy, Sort, Uid, DESCRIPTORS,
     DOMAINS, ELEMENTS, ENTRIES, MEMBERS,
 };
 
@@ -72,7 +72,8 @@ fn entry(dice: &mut Dice, domains: usize) -> Entry {
     let context = Context {
         pattern: pattern(dice, domains),
         uid: *dice.pick(&[Uid::All, Uid::Variable, Uid::Root, Uid::User]),
-        gid: *dice.pick(&[Gid::All, Gid::Variable]),
+        gid: *dice.pick(&[Sort::All, Sort::Variable]),
+        namespace: *dice.pick(&[Sort::All, Sort::Variable]),
     };
     // Its variables are those of the entry, so they are bound.
     let mut some = || {
@@ -120,18 +121,20 @@ pub fn event(dice: &mut Dice, frames: usize) -> OwnEvent {
     if let Some(top) = running.last_mut() {
         *top = 0;
     }
-    let (uid, gid) = (dice.below(2) as u32, dice.below(2) as u32);
+    let [uid, gid, namespace] = [(); 3].map(|()| dice.below(2) as u32);
     OwnEvent {
         operation: dice.from_to(1, 4) as u16,
         target: dice.below(MEMBERS) as u16,
         stack: running,
         uid,
         gid,
+        namespace,
         allocation: match dice.percent(50) {
             true => stack(dice),
             false => Vec::new(),
         },
         allocation_uid: uid,
         allocation_gid: gid,
+        allocation_namespace: namespace,
     }
 }

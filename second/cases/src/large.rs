@@ -72,7 +72,7 @@ fn with_domains(names: &[String]) -> String {
     let front =
         format!("object_map: []\nsubject_map:\n{domains}- name: S\n  subjects: []\nprivileges:\n");
     let both = names.iter().flat_map(|name| [name.clone(), function(name)]);
-    add_patterns(front, &both.collect::<Vec<_>>(), 100)
+    add_patterns(front, &both.collect::<Vec<_>>(), 94)
 }
 
 /// So many entries at most, each with three full patterns, after the front of a
@@ -252,8 +252,10 @@ fn short_entries() -> String {
 }
 
 /// Every count at its limit: domains of both maps, objects, functions, entries,
-/// descriptors. The first entry has a full pattern and grants every domain.
+/// descriptors. The first entry has a full pattern and grants every domain. Each
+/// binds a uid and a namespace that its object asks for.
 fn every_limit() -> String {
+    let keys = "      uid: U\n      namespace: N\n";
     let map = |before: char, key: &str, sort: &str| -> String {
         let domain = |number: usize| {
             let own = 8 * number..8 * number + 8;
@@ -271,8 +273,8 @@ fn every_limit() -> String {
         let names = (number..number + granted).map(|n| format!("s{}", short_name(n)));
         let (granted, name) = (names.collect::<Vec<_>>().join(", "), short_name(number));
         format!(
-            "- principal:\n    subject: s{name}\n    execution_context:\n      call_context: [{}]\n      uid: U\n  \
-             can_call: [{granted}]\n  can_read:\n  - objects: [o{name}]\n    object_context:\n      uid: U\n",
+            "- principal:\n    subject: s{name}\n    execution_context:\n      call_context: [{}]\n{keys}  \
+             can_call: [{granted}]\n  can_read:\n  - objects: [o{name}]\n    object_context:\n{keys}",
             elements.join(", ")
         )
     };

@@ -17,6 +17,7 @@ pub mod large;
 pub mod limits;
 pub mod listings;
 pub mod names;
+pub mod namespaces;
 pub mod patterns;
 pub mod readings;
 pub mod stored;

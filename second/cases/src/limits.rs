@@ -7,7 +7,12 @@ use crate::{ends, write};
 pub const LIMITS: usize = DRAFT_LIMITS + 5;
 
 /// How many of them a draft can show; the others are about whole texts.
-pub const DRAFT_LIMITS: usize = 22;
+pub const DRAFT_LIMITS: usize = 24;
+
+/// The places of the keys of a context, as `draft::KEYS` has them.
+const UID: usize = 0;
+const GID: usize = 1;
+const NAMESPACE: usize = 2;
 
 /// Some of those: the domains of each map, and a domain's name.
 pub const OBJECT_DOMAINS: usize = 0;
@@ -36,7 +41,7 @@ pub fn draft(limit: usize, past: bool) -> (Draft, u16) {
         6 => object_elements(&mut draft, 16 + more),
         7 => descriptors(&mut draft, 256 + more),
         NAME => name(&mut draft, 64 + more),
-        9 => variable(&mut draft, 64 + more),
+        9 => variable(&mut draft, GID, 64 + more),
         10 => identifier(&mut draft, 128 + more),
         11 => line_number(&mut draft, past),
         12 => one_list(&mut draft.objects[0], 1_024 + more, "OTHER|||"),
@@ -44,11 +49,13 @@ pub fn draft(limit: usize, past: bool) -> (Draft, u16) {
         14 => omitted(&mut draft, past),
         15 => read_elements(&mut draft, 16 + more),
         16 => listed_name(&mut draft, 64 + more),
-        17 => uid(&mut draft, 64 + more),
+        17 => variable(&mut draft, UID, 64 + more),
         18 => object_identifier(&mut draft, 128 + more),
-        19 => bound(&mut draft, past),
+        19 => bound(&mut draft, UID, past),
         20 => element_name(&mut draft, 64 + more),
-        _ => object_element_name(&mut draft, 64 + more),
+        21 => object_element_name(&mut draft, 64 + more),
+        22 => variable(&mut draft, NAMESPACE, 64 + more),
+        _ => bound(&mut draft, NAMESPACE, past),
     };
     (draft, if past { number } else { 0 })
 }
@@ -83,8 +90,7 @@ fn domain(name: &str, members: &[&str]) -> Domain {
 fn keys(pattern: Vec<String>) -> Context {
     Context::Keys {
         call_context: Some(pattern),
-        uid: Some("U".to_string()),
-        gid: None,
+        values: [Some("U".to_string()), None, None],
     }
 }
 
@@ -174,13 +180,20 @@ fn name(draft: &mut Draft, length: usize) -> u16 {
     5
 }
 
-fn variable(draft: &mut Draft, length: usize) -> u16 {
-    draft.entries[0].context = Context::Keys {
-        call_context: None,
-        uid: None,
-        gid: Some("g".repeat(length)),
-    };
+/// A variable at one of the keys, and no other key.
+fn variable(draft: &mut Draft, key: usize, length: usize) -> u16 {
+    draft.entries[0].context = only(key, "v".repeat(length));
     5
+}
+
+/// A context with one of the keys alone.
+fn only(key: usize, value: String) -> Context {
+    let mut values = [None, None, None];
+    values[key] = Some(value);
+    Context::Keys {
+        call_context: None,
+        values,
+    }
 }
 
 fn identifier(draft: &mut Draft, length: usize) -> u16 {
@@ -252,36 +265,25 @@ fn object_element_name(draft: &mut Draft, length: usize) -> u16 {
     number
 }
 
-fn uid(draft: &mut Draft, length: usize) -> u16 {
-    draft.entries[0].context = Context::Keys {
-        call_context: None,
-        uid: Some("u".repeat(length)),
-        gid: None,
-    };
-    5
-}
-
 fn object_identifier(draft: &mut Draft, length: usize) -> u16 {
     let member = format!("OTHER|||{}", "x".repeat(length - 8));
     draft.objects[0].members.push(member);
     5
 }
 
-/// `uid: U` in an object context under the entry's, or under no binding.
-fn bound(draft: &mut Draft, past: bool) -> u16 {
-    let context = Context::Keys {
-        call_context: None,
-        uid: Some("U".to_string()),
-        gid: None,
-    };
+/// `uid: U`, or the same at another key, in an object context under the entry's,
+/// or under no binding.
+fn bound(draft: &mut Draft, key: usize, past: bool) -> u16 {
+    let context = only(key, "U".to_string());
     let entry = &mut draft.entries[0];
+    entry.context = match past {
+        true => Context::Omitted,
+        false => context.clone(),
+    };
     entry.can_write = Access::Items(vec![Item {
         objects: Grant::All,
         context,
     }]);
-    if past {
-        entry.context = Context::Omitted;
-    }
     10
 }
 

@@ -60,7 +60,7 @@ pub fn tables() -> Vec<Vec<u16>> {
     policies.filter_map(|policy| encode(&policy)).collect()
 }
 
-/// Whose patterns: those of the entries, or those of their descriptors.
+/// Whose contexts: those of the entries, or those of their descriptors.
 #[derive(Clone, Copy, Debug, PartialEq, Eq)]
 pub enum Whose {
     Entry,
@@ -74,22 +74,31 @@ pub fn has_domain(context: &Context) -> bool {
 
 /// Whether some pattern of a policy has a domain.
 pub fn any_domain(policy: &Policy, whose: Whose) -> bool {
+    any_context(policy, whose, has_domain)
+}
+
+/// Whether some context of a policy is such a one.
+pub fn any_context(policy: &Policy, whose: Whose, is_such: impl Fn(&Context) -> bool) -> bool {
     policy.entries.iter().any(|entry| match whose {
-        Whose::Entry => has_domain(&entry.context),
-        Whose::Object => entry.descriptors().any(|d| has_domain(&d.context)),
+        Whose::Entry => is_such(&entry.context),
+        Whose::Object => entry.descriptors().any(|d| is_such(&d.context)),
     })
 }
 
 /// The policy with each domain in these patterns as another element.
 pub fn with_domains_as(policy: &Policy, whose: Whose, other: impl Fn(u16) -> Element) -> Policy {
-    let mut policy = policy.clone();
-    let change = |context: &mut Context| {
+    with_contexts(policy, whose, |context| {
         for element in &mut context.pattern {
             if let Element::Domain(domain) = *element {
                 *element = other(domain);
             }
         }
-    };
+    })
+}
+
+/// The policy with these contexts changed.
+pub fn with_contexts(policy: &Policy, whose: Whose, change: impl Fn(&mut Context)) -> Policy {
+    let mut policy = policy.clone();
     for entry in &mut policy.entries {
         let descriptors = [&mut entry.can_read, &mut entry.can_write];
         match whose {

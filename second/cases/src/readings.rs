@@ -1,10 +1,10 @@
 //! The texts that are stored for the reader, each with how many words of a
 //! table are lent: all limits that fit into few bytes, line ends of every sort,
-//! domain names in patterns, and short texts of every sort.
+//! domain names in patterns, namespaces, and short texts of every sort.
 
 use crate::dice::Dice;
 use crate::large::short_name;
-use crate::{ends, limits, patterns, texts};
+use crate::{ends, limits, namespaces, patterns, texts};
 use second::refusal::{COUNT, SAME_PRINCIPAL, TWICE, UNBOUND, UNKNOWN};
 use second::{policy_of, EXAMPLE, TABLE_WORDS};
 
@@ -15,7 +15,7 @@ pub type Reading = (Vec<u8>, usize);
 const SHORT: usize = 700;
 
 /// How many short texts there are.
-const SHORT_TEXTS: u64 = 112;
+const SHORT_TEXTS: u64 = 100;
 
 pub fn all(seed: u64) -> Vec<Reading> {
     let rooms = [0, TABLE_WORDS - 1, TABLE_WORDS, TABLE_WORDS + 6];
@@ -25,6 +25,7 @@ pub fn all(seed: u64) -> Vec<Reading> {
     all.extend(counts().map(|text| enough(text.into_bytes())));
     all.extend(ends::stored().into_iter().map(enough));
     all.extend(patterns::stored().into_iter().map(enough));
+    all.extend(namespaces::stored().into_iter().map(enough));
     all.extend((0..SHORT_TEXTS).map(|case| short(case, &mut Dice::of_case(seed, case))));
     all
 }

@@ -5,7 +5,8 @@
 
 use crate::dice::Dice;
 use crate::events::{self, OwnEvent};
-use crate::{ends, fillings, findings, listings, names, patterns, readings, tables, texts};
+use crate::{ends, fillings, findings, listings, names, namespaces, patterns};
+use crate::{readings, tables, texts};
 use second::{decode, fill, filler, first_fault, judge, list, overlap, read, Refusal, TABLE_WORDS};
 
 /// The codes of the trials' operations.
@@ -105,8 +106,10 @@ fn put_event(out: &mut Vec<u8>, table: &[u16], event: &OwnEvent) {
     put_u16(out, event.target);
     put_u32(out, event.uid);
     put_u32(out, event.gid);
+    put_u32(out, event.namespace);
     put_u32(out, event.allocation_uid);
     put_u32(out, event.allocation_gid);
+    put_u32(out, event.allocation_namespace);
     put_words(out, &event.stack);
     put_words(out, &event.allocation);
     put_u32(out, verdict.answer().packed() as u32);
@@ -136,19 +139,26 @@ fn trials() -> Vec<u8> {
             stack: stack.to_vec(),
             uid: 5,
             gid: 0,
+            namespace: 0,
             allocation: Vec::new(),
             allocation_uid: 0,
             allocation_gid: 0,
+            allocation_namespace: 0,
         };
         put_event(&mut out, &table, &event);
     }
     out
 }
 
-/// A large table, those of the stored patterns, and any others.
+/// The tables of the stored patterns and namespaces.
+fn named_tables() -> impl Iterator<Item = Vec<u16>> {
+    patterns::tables().into_iter().chain(namespaces::tables())
+}
+
+/// A large table, those of the stored patterns and namespaces, and any others.
 fn judge_cases() -> Vec<u8> {
-    let (count, events) = (80, 40);
-    let mut named = patterns::tables().into_iter();
+    let (count, events) = (80, 36);
+    let mut named = named_tables();
     let mut out = Vec::new();
     put_u32(&mut out, count);
     for case in 0..u64::from(count) {
@@ -170,10 +180,10 @@ fn judge_cases() -> Vec<u8> {
     out
 }
 
-/// The tables of the stored patterns, and any others.
+/// The tables of the stored patterns and namespaces, and any others.
 fn overlap_cases() -> Vec<u8> {
     let count = 250;
-    let mut named = patterns::tables().into_iter();
+    let mut named = named_tables();
     let mut out = Vec::new();
     put_u32(&mut out, count);
     for case in 0..u64::from(count) {
@@ -199,6 +209,7 @@ fn page_cases() -> Vec<u8> {
     let mut all = vec![Vec::new(), b"\n".to_vec()];
     all.extend(ends::stored());
     all.extend(patterns::stored());
+    all.extend(namespaces::stored());
     all.extend(short);
     let mut out = Vec::new();
     put_u32(&mut out, all.len() as u32);

@@ -2,10 +2,10 @@
 
 use crate::dice::Dice;
 use crate::{limits, texts};
-use second::policy::{first_repeat, Context, Descriptor, Element, Entry, Gid, Grant, Policy, Uid};
+use second::policy::{first_repeat, Context, Descriptor, Element, Entry, Grant, Policy, Sort, Uid};
 use second::table::{
     DESCRIPTORS_AT, DESCRIPTOR_WORDS, DOMAIN_WORDS_AT, ENTRIES_AT, ENTRY_WORDS, FUNCTIONS_AT,
-    OBJECTS_AT, PATTERN_AT, UNUSED_AT,
+    NAMESPACE_AT, OBJECTS_AT, PATTERN_AT, UID_AT, UNUSED_AT,
 };
 use second::{encode, policy_of, TABLE_WORDS};
 
@@ -74,6 +74,7 @@ pub fn policy(dice: &mut Dice) -> Policy {
             let sort = *dice.pick(&MEETINGS);
             meeting(dice, sort)
         }
+        60..=67 => open(dice),
         _ => direct(dice),
     }
 }
@@ -145,7 +146,7 @@ fn of_two(
         context: Context {
             pattern,
             uid,
-            gid: Gid::All,
+            ..Context::all()
         },
         can_call: Grant::All,
         can_return: Grant::All,
@@ -239,6 +240,37 @@ fn pair(dice: &mut Dice, functions: &[u16], meeting: Meeting) -> [Element; 2] {
     }
 }
 
+/// Few entries with patterns of `all` alone that bind a namespace, which most of
+/// their objects ask for: the numbers of an event decide.
+fn open(dice: &mut Dice) -> Policy {
+    let mut policy = Policy {
+        object_domains: 1,
+        subject_domains: 2,
+        objects: vec![0; 2],
+        functions: vec![0, 0, 1],
+        entries: Vec::new(),
+    };
+    add_entries(dice, &mut policy, 4, 2);
+    for entry in &mut policy.entries {
+        let bound = Context {
+            namespace: Sort::Variable,
+            ..Context::all()
+        };
+        for descriptor in entry.can_read.iter_mut().chain(&mut entry.can_write) {
+            descriptor.context = match dice.percent(85) {
+                true => bound.clone(),
+                false => Context::all(),
+            };
+        }
+        entry.context.pattern.fill(Element::All);
+        entry.context.namespace = Sort::Variable;
+    }
+    while let Some(later) = first_repeat(&policy.entries) {
+        policy.entries.remove(later);
+    }
+    policy
+}
+
 /// A policy with many entries, long patterns and many domains.
 pub fn large(dice: &mut Dice) -> Policy {
     let (object_domains, subject_domains) = (128, dice.from_to(100, 128) as u16);
@@ -330,19 +362,25 @@ fn context(dice: &mut Dice, policy: &Policy, elements: usize, outer: Option<&Con
     };
     let pattern = (0..length).map(|_| element(dice)).collect();
     let mut uid = *dice.pick(&[Uid::All, Uid::Variable, Uid::Root, Uid::User]);
-    let mut gid = *dice.pick(&[Gid::All, Gid::All, Gid::Variable]);
+    let [mut gid, mut namespace] =
+        [(); 2].map(|()| *dice.pick(&[Sort::All, Sort::All, Sort::Variable]));
     if let Some(outer) = outer {
         if uid == Uid::Variable && outer.uid != Uid::Variable {
             uid = Uid::All;
         }
-        if gid == Gid::Variable && outer.gid != Gid::Variable {
-            gid = Gid::All;
-        }
+        // What the entry does not bind is `all`, the lesser sort.
+        gid = gid.min(outer.gid);
+        namespace = namespace.min(outer.namespace);
         if dice.percent(25) {
             return Context::all();
         }
     }
-    Context { pattern, uid, gid }
+    Context {
+        pattern,
+        uid,
+        gid,
+        namespace,
+    }
 }
 
 /// Changes one word or bit, anywhere or where it matters, or the length.
@@ -406,7 +444,10 @@ fn edge(dice: &mut Dice, words: &mut [u16]) {
             ]),
         ),
         7 => (context, *dice.pick(&[0, 1, 16, 17])),
-        8 | 9 => (context + dice.from_to(1, 2), dice.below(5) as u16),
+        8 | 9 => (
+            context + dice.from_to(UID_AT, NAMESPACE_AT),
+            dice.below(5) as u16,
+        ),
         10 => (
             entry + dice.from_to(21, 22),
             *dice.pick(&[0, 1, 255, 256, 257]),

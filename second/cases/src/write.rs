@@ -1,7 +1,7 @@
 //! A draft as lines, and lines as a text.
 
 use crate::dice::Dice;
-use crate::draft::{Access, Context, Domain, Draft, Entry, Grant};
+use crate::draft::{Access, Context, Domain, Draft, Entry, Grant, KEYS};
 
 /// The lines of a draft, none of them skipped.
 pub fn lines(draft: &Draft) -> Vec<String> {
@@ -109,15 +109,19 @@ fn context(out: &mut Vec<String>, key: &str, context: &Context) {
         Context::All => out.push(format!("    {key}: all")),
         Context::Keys {
             call_context,
-            uid,
-            gid,
+            values,
         } => {
             out.push(format!("    {key}:"));
             if let Some(elements) = call_context {
                 out.push(format!("      call_context: {}", list(elements)));
             }
-            out.extend(uid.iter().map(|uid| format!("      uid: {uid}")));
-            out.extend(gid.iter().map(|gid| format!("      gid: {gid}")));
+            for (key, value) in KEYS.iter().zip(values) {
+                match value.as_deref() {
+                    None => {}
+                    Some("") => out.push(format!("      {key}:")),
+                    Some(value) => out.push(format!("      {key}: {value}")),
+                }
+            }
         }
     }
 }

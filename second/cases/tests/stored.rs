@@ -4,10 +4,12 @@
 use cases::events::OwnEvent;
 use cases::findings::{Finding, Search};
 use cases::names::Question;
-use cases::patterns::has_domain;
+use cases::namespaces::without;
+use cases::patterns::{has_domain, Whose};
 use cases::stored::{files, runs, UNTOUCHED};
-use cases::{ends, fillings, patterns, readings};
+use cases::{ends, fillings, namespaces, patterns, readings};
 use second::answer::REFUSED;
+use second::judge::judge_policy;
 use second::{
     decode, fill, filled, filler, first_fault, judge, list, names, overlap, policy_of, read,
     Answer, Overlap, Policy, Refusal, Verdict, EXAMPLE, TABLE_WORDS,
@@ -74,16 +76,18 @@ impl Replay {
     /// An event and its answer.
     fn event(&mut self) -> (OwnEvent, Answer) {
         let (operation, target) = (self.number(2) as u16, self.number(2) as u16);
-        let ids: Vec<u32> = (0..4).map(|_| self.number(4) as u32).collect();
+        let ids: Vec<u32> = (0..6).map(|_| self.number(4) as u32).collect();
         let event = OwnEvent {
             operation,
             target,
             stack: self.words(),
             uid: ids[0],
             gid: ids[1],
+            namespace: ids[2],
             allocation: self.words(),
-            allocation_uid: ids[2],
-            allocation_gid: ids[3],
+            allocation_uid: ids[3],
+            allocation_gid: ids[4],
+            allocation_namespace: ids[5],
         };
         (event, Answer::of(self.number(4)))
     }
@@ -123,9 +127,12 @@ fn trials_are_those_of_document_01() {
 fn judge_cases_replay() {
     let mut replay = Replay::of("judge.cases");
     let (mut seen, mut by_domain) = (HashSet::new(), HashSet::new());
+    // Whether a namespace decides, of a static object or of another.
+    let mut by_namespace = HashSet::new();
     for _ in 0..replay.number(4) {
         let table = replay.table();
         let policy = decode(&table);
+        let open = policy.as_ref().map(|p| without(p, Whose::Object));
         for _ in 0..replay.number(4) {
             let (event, answer) = replay.event();
             let verdict = judge(&table, event.operation, event.target, &event.lent());
@@ -135,6 +142,10 @@ fn judge_cases_replay() {
                 let objects = entry.descriptors().map(|d| &d.context);
                 by_domain.insert(("own", has_domain(&entry.context)));
                 by_domain.insert(("object", objects.into_iter().any(has_domain)));
+            }
+            if let Some(open) = &open {
+                let opened = judge_policy(open, event.operation, event.target, &event.lent());
+                by_namespace.insert((opened != verdict, event.allocation.is_empty()));
             }
             // Whichever entry it is that allows.
             seen.insert(match verdict {
@@ -150,6 +161,7 @@ fn judge_cases_replay() {
     let needed = violations.chain(refusals).chain(allowed);
     assert_eq!(seen, needed.collect());
     assert_eq!(by_domain.len(), 4);
+    assert_eq!(by_namespace.len(), 4);
 }
 
 #[test]
@@ -440,6 +452,15 @@ fn patterns_are_taken_and_refused() {
     let numbers: Vec<u16> = patterns::stored().into_iter().map(number).collect();
     assert_eq!(numbers, [0, 0, 0, 0, 0, 8, 8, 8, 5, 5, 11]);
     assert_eq!(patterns::tables().len(), 5);
+}
+
+/// Five texts with namespaces that are taken, and seven that are not.
+#[test]
+fn namespaces_are_taken_and_refused() {
+    let number = |text: Vec<u8>| policy_of(&text).err().map_or(0, |refusal| refusal.number);
+    let numbers: Vec<u16> = namespaces::stored().into_iter().map(number).collect();
+    assert_eq!(numbers, [0, 0, 0, 0, 0, 5, 9, 4, 4, 10, 10, 11]);
+    assert_eq!(namespaces::tables().len(), 5);
 }
 
 #[test]

@@ -4,7 +4,8 @@ use crate::case::Check;
 use crate::show;
 use crate::wire::{Call, Function, Replies, Requests};
 use cases::events::{self, OwnEvent};
-use cases::patterns::has_domain;
+use cases::namespaces::without;
+use cases::patterns::{has_domain, Whose};
 use cases::{tables, Dice};
 use second::judge::{judge_policy, Verdict};
 use second::refusal::NOT_WELL_FORMED;
@@ -48,6 +49,8 @@ fn ask_all(
         requests.show(ALLOCATION);
     }
     requests.show(TABLE);
+    // As it would be if no object asked for a namespace.
+    let open = policy.as_ref().map(|policy| without(policy, Whose::Object));
     Box::new(move |replies, mix| {
         for event in &events {
             let plain = plain(policy.as_ref(), event);
@@ -55,6 +58,9 @@ fn ask_all(
                 show::difference(&[show::table(&words), show::event(event)], fault)
             })?;
             mix.count(name(policy.as_ref(), plain));
+            if open.is_some() && self::plain(open.as_ref(), event) != plain {
+                mix.count("decided by a namespace");
+            }
         }
         let table = replies
             .shown()
@@ -73,8 +79,10 @@ pub fn call(function: Function, event: &OwnEvent, slots: [u32; 3]) -> Call {
         event.target.into(),
         event.uid,
         event.gid,
+        event.namespace,
         event.allocation_uid,
         event.allocation_gid,
+        event.allocation_namespace,
     ];
     Call::new(function, &slots, &numbers)
 }

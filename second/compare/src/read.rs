@@ -4,7 +4,8 @@ use crate::case::{Check, Mix};
 use crate::page::{outcome, told};
 use crate::show;
 use crate::wire::{Call, Function, Replies, Requests};
-use cases::patterns::{any_domain, Whose};
+use cases::namespaces::has_namespace;
+use cases::patterns::{any_context, any_domain, Whose};
 use cases::{texts, Dice};
 use second::{decode, Answer, Refusal, TABLE_WORDS};
 
@@ -31,7 +32,7 @@ pub fn ask(case: u64, dice: &mut Dice, requests: &mut Requests) -> Check {
             show::difference(&[show::text(&text), room], fault)
         })?;
         mix.count(outcome(plain, "accepted"));
-        count_domains(&expected, mix);
+        count_contexts(&expected, mix);
         Ok(())
     })
 }
@@ -51,14 +52,20 @@ fn room(dice: &mut Dice) -> usize {
     }
 }
 
-/// Whose patterns name domains, in a table that was read.
-fn count_domains(table: &[u16], mix: &mut Mix) {
+/// Whose contexts name domains and bind namespaces, in a table that was read.
+fn count_contexts(table: &[u16], mix: &mut Mix) {
     let Some(policy) = decode(table) else { return };
     if any_domain(&policy, Whose::Entry) {
         mix.count("accepted, a domain in an execution context");
     }
     if any_domain(&policy, Whose::Object) {
         mix.count("accepted, a domain in an object context");
+    }
+    if any_context(&policy, Whose::Entry, has_namespace) {
+        mix.count("accepted, a namespace in an execution context");
+    }
+    if any_context(&policy, Whose::Object, has_namespace) {
+        mix.count("accepted, a namespace in an object context");
     }
 }
 

@@ -3,7 +3,8 @@
 use crate::case::Check;
 use crate::show;
 use crate::wire::{Call, Function, Replies, Requests};
-use cases::patterns::{any_domain, Whose};
+use cases::namespaces::has_namespace;
+use cases::patterns::{any_context, any_domain, Whose};
 use cases::{tables, Dice};
 use second::decode;
 
@@ -21,8 +22,13 @@ pub fn ask(_: u64, dice: &mut Dice, requests: &mut Requests) -> Check {
         check(&words, plain, replies)
             .map_err(|fault| show::difference(&[show::table(&words)], fault))?;
         mix.count(plain);
-        if decode(&words).is_some_and(|policy| any_domain(&policy, Whose::Entry)) {
-            mix.count("true, with a domain in a pattern");
+        if let Some(policy) = decode(&words) {
+            if any_domain(&policy, Whose::Entry) {
+                mix.count("true, with a domain in a pattern");
+            }
+            if any_context(&policy, Whose::Object, has_namespace) {
+                mix.count("true, with a namespace of an object");
+            }
         }
         Ok(())
     })

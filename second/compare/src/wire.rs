@@ -59,7 +59,7 @@ pub const TIME: u32 = 4;
 pub struct Call {
     pub function: u32,
     pub slots: [u32; 3],
-    pub numbers: [u32; 6],
+    pub numbers: [u32; 8],
 }
 
 impl Call {

@@ -399,6 +399,56 @@ fn wrong_domains_in_patterns_are_found() {
     }
 }
 
+/// Namespaces, taken otherwise.
+#[test]
+fn wrong_namespaces_are_found() {
+    let faults = [
+        (
+            "well_formed",
+            "word 3 of a context is unused",
+            "proved: \"false\"",
+        ),
+        (
+            "well_formed",
+            "word 3 of a context is not looked at",
+            "plain:  \"false\"",
+        ),
+        (
+            "well_formed",
+            "a namespace is left out of the principal",
+            "proved: \"false\"",
+        ),
+        (
+            "judge",
+            "a namespace is not looked at",
+            "proved: Answer { class: 4",
+        ),
+        ("judge", "a namespace is bound to the gid", "plain:  Answer"),
+        (
+            "judge",
+            "a namespace fits a static object",
+            "proved: Answer { class: 4",
+        ),
+        (
+            "read",
+            "a namespace is left out of the principal",
+            "number 11",
+        ),
+        ("read", "a namespace is not read", "table: place"),
+        ("read", "a namespace is bound by any word", "number 10"),
+        ("read", "a namespace is taken as a uid", "number 5"),
+        (
+            "fill",
+            "a context of three keys is filled",
+            "plain:  Answer",
+        ),
+    ];
+    for (function, fault, told) in faults {
+        // As many cases as the gate runs.
+        found(fault, &format!("--only {function} --count 3000"), &[told]);
+    }
+}
+
 /// These outcomes are among the cases that the gate runs.
 fn has_outcomes(function: &str, refusals: impl Iterator<Item = u16>, others: &[&str]) {
     let line = format!("--only {function} --count 3000");
@@ -414,7 +464,12 @@ fn has_outcomes(function: &str, refusals: impl Iterator<Item = u16>, others: &[&
 
 #[test]
 fn tables_have_every_outcome() {
-    let others = ["true", "false", "true, with a domain in a pattern"];
+    let others = [
+        "true",
+        "false",
+        "true, with a domain in a pattern",
+        "true, with a namespace of an object",
+    ];
     has_outcomes("well_formed", 0..0, &others);
 }
 
@@ -425,6 +480,7 @@ fn verdicts_have_every_outcome() {
         "inside one domain",
         "allowed by an entry",
         "allowed by an entry that names a domain",
+        "decided by a namespace",
     ];
     let others = [&violations[..], &allowed].concat();
     has_outcomes("judge", 20..=23, &others);
@@ -451,6 +507,8 @@ fn readings_have_every_outcome() {
         "accepted",
         "accepted, a domain in an execution context",
         "accepted, a domain in an object context",
+        "accepted, a namespace in an execution context",
+        "accepted, a namespace in an object context",
     ];
     has_outcomes("read", 1..=11, &others);
 }

@@ -35,6 +35,7 @@ pub struct Context<'t> {
     pub call_context: Option<List<'t>>,
     pub uid: Option<Word<'t>>,
     pub gid: Option<Word<'t>>,
+    pub namespace: Option<Word<'t>>,
 }
 
 /// An access descriptor that stands as an item.

@@ -106,7 +106,7 @@ fn access(out: &mut Vec<u8>, key: &str, access: &Access<'_>) {
     }
 }
 
-/// "Contexts always get three keys."
+/// "Four keys in every filled context" (point 10).
 fn context(out: &mut Vec<u8>, key: &str, context: &Context<'_>) {
     let pattern = |list_: &List<'_>| list(&list_.elements);
     let scalar = |word: Option<Word<'_>>| word.map_or(b"all".to_vec(), |w| w.bytes.to_vec());
@@ -119,4 +119,5 @@ fn context(out: &mut Vec<u8>, key: &str, context: &Context<'_>) {
     );
     line(out, "      uid: ", &scalar(context.uid));
     line(out, "      gid: ", &scalar(context.gid));
+    line(out, "      namespace: ", &scalar(context.namespace));
 }

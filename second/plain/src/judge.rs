@@ -2,7 +2,7 @@
 
 use crate::answer::{Answer, REFUSED};
 use crate::matching::matches;
-use crate::policy::{Context, Descriptor, Element, Entry, Gid, Policy, Uid};
+use crate::policy::{Context, Descriptor, Element, Entry, Policy, Sort, Uid};
 use crate::refusal::{ALLOCATION, NOT_WELL_FORMED, OPERATION, STACK};
 use crate::table::decode;
 
@@ -37,10 +37,12 @@ pub struct Event<'e> {
     pub stack: &'e [u16],
     pub uid: u32,
     pub gid: u32,
+    pub namespace: u32,
     /// Empty for a static object.
     pub allocation: &'e [u16],
     pub allocation_uid: u32,
     pub allocation_gid: u32,
+    pub allocation_namespace: u32,
 }
 
 #[derive(Clone, Copy, Debug, PartialEq, Eq, Hash)]
@@ -135,7 +137,7 @@ fn verdict(
 
 /// "An entry matches when the top frame's domain is its subject, the pattern
 /// matches the whole stack, and uid fits (`root` is 0, `user` is not 0, a
-/// variable binds anything)." Any gid fits.
+/// variable binds anything)." Any gid fits, and any namespace.
 fn entry_matches(functions: &[u16], entry: &Entry, subject: u16, event: &Event<'_>) -> bool {
     let uid = match entry.context.uid {
         Uid::All | Uid::Variable => true,
@@ -169,12 +171,13 @@ fn grants(
 
 /// "An object context fits an allocated object likewise, a variable there
 /// needing the bound number. It fits a static object only with every pattern
-/// element `all` and uid and gid `all`."
+/// element `all` and uid and gid `all`", the namespace too.
 fn object_fits(functions: &[u16], context: &Context, event: &Event<'_>) -> bool {
     if event.allocation.is_empty() {
         return context.pattern.iter().all(|e| *e == Element::All)
             && context.uid == Uid::All
-            && context.gid == Gid::All;
+            && context.gid == Sort::All
+            && context.namespace == Sort::All;
     }
     let uid = match context.uid {
         Uid::All => true,
@@ -182,9 +185,15 @@ fn object_fits(functions: &[u16], context: &Context, event: &Event<'_>) -> bool 
         Uid::Root => event.allocation_uid == 0,
         Uid::User => event.allocation_uid != 0,
     };
-    let gid = match context.gid {
-        Gid::All => true,
-        Gid::Variable => event.allocation_gid == event.gid,
+    let fits = |sort, bound: u32, number: u32| match sort {
+        Sort::All => true,
+        Sort::Variable => number == bound,
     };
-    uid && gid && matches(functions, &context.pattern, event.allocation)
+    uid && fits(context.gid, event.gid, event.allocation_gid)
+        && fits(
+            context.namespace,
+            event.namespace,
+            event.allocation_namespace,
+        )
+        && matches(functions, &context.pattern, event.allocation)
 }

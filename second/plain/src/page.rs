@@ -329,7 +329,7 @@ impl<'t> Page<'t> {
     }
 
     /// "`execution_context` and `object_context` are `all` or one or more of
-    /// `call_context`, `uid`, `gid`."
+    /// `call_context`, `uid`, `gid`", and `namespace` after these.
     fn context(&mut self, key: &str) -> Result<Context<'t>, Refusal> {
         let Some(field) = self.take_if(4, key)? else {
             return Ok(Context::default());
@@ -346,7 +346,8 @@ impl<'t> Page<'t> {
             Some(field) => Some(field.pattern()?),
         };
         let uid = self.scalar_if("uid", scalars::is_uid)?;
-        let gid = self.scalar_if("gid", scalars::is_gid)?;
+        let gid = self.scalar_if("gid", scalars::is_all_or_variable)?;
+        let namespace = self.scalar_if("namespace", scalars::is_all_or_variable)?;
         if self.next == first {
             return self.misplaced();
         }
@@ -354,6 +355,7 @@ impl<'t> Page<'t> {
             call_context,
             uid,
             gid,
+            namespace,
         })
     }
 

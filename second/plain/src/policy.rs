@@ -37,9 +37,9 @@ pub enum Uid {
     User,
 }
 
-/// The sort of a gid.
+/// The sort of a gid, and of a namespace: "same rules as gid".
 #[derive(Clone, Copy, Debug, PartialEq, Eq, PartialOrd, Ord, Hash)]
-pub enum Gid {
+pub enum Sort {
     All,
     Variable,
 }
@@ -48,16 +48,18 @@ pub enum Gid {
 pub struct Context {
     pub pattern: Vec<Element>,
     pub uid: Uid,
-    pub gid: Gid,
+    pub gid: Sort,
+    pub namespace: Sort,
 }
 
 impl Context {
-    /// "Omitted ones are `[all]`, `all`, `all`."
+    /// "Omitted ones are `[all]`, `all`, `all`", and `all` again.
     pub fn all() -> Context {
         Context {
             pattern: vec![Element::All],
             uid: Uid::All,
-            gid: Gid::All,
+            gid: Sort::All,
+            namespace: Sort::All,
         }
     }
 }
@@ -146,7 +148,7 @@ impl Entry {
     }
 
     /// "Principals are the same when subject and pattern elements are equal
-    /// and uid and gid are of the same sort."
+    /// and uid and gid are of the same sort"; the namespace likewise.
     pub fn same_principal(&self, other: &Entry) -> bool {
         self.subject == other.subject && self.context == other.context
     }
@@ -154,9 +156,10 @@ impl Entry {
     /// "A variable in an object context has a variable at the same key of its
     /// entry" (point 21).
     fn binds(&self, context: &Context) -> bool {
-        let uid = context.uid != Uid::Variable || self.context.uid == Uid::Variable;
-        let gid = context.gid != Gid::Variable || self.context.gid == Gid::Variable;
-        uid && gid
+        let binds = |bound, used| used != Sort::Variable || bound == Sort::Variable;
+        (context.uid != Uid::Variable || self.context.uid == Uid::Variable)
+            && binds(self.context.gid, context.gid)
+            && binds(self.context.namespace, context.namespace)
     }
 }
 

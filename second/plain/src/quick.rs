@@ -14,8 +14,8 @@ use crate::refusal::Refusal;
 use crate::scalars;
 use crate::table::{
     CALL_AT, DESCRIPTORS_AT, DESCRIPTOR_GRANT_AT, DESCRIPTOR_WORDS, DOMAIN_WORDS_AT, ENTRIES_AT,
-    ENTRY_WORDS, FUNCTIONS_AT, MARK, OBJECTS_AT, PATTERN_AT, READS_AT, RETURN_AT, SUBJECT_AT,
-    TABLE_WORDS, WRITES_AT,
+    ENTRY_WORDS, FUNCTIONS_AT, GID_AT, MARK, NAMESPACE_AT, OBJECTS_AT, PATTERN_AT, READS_AT,
+    RETURN_AT, SUBJECT_AT, TABLE_WORDS, UID_AT, WRITES_AT,
 };
 use crate::text::TEXT_LIMIT;
 use std::collections::{HashMap, HashSet};
@@ -64,18 +64,25 @@ fn takes_into(text: &[u8], words: &mut [u16], filled: &mut impl Lines) -> bool {
     text.len() <= TEXT_LIMIT && pass.file().is_some()
 }
 
-/// The word of a uid or gid that is a variable.
+/// The word of a uid, gid or namespace that is a variable.
 const VARIABLE: u16 = 1;
 
 /// What two entries must not share: the context and the subject of an entry,
 /// as its first words hold them.
 type Principal = [u16; SUBJECT_AT + 1];
 
+/// The keys of a context after its pattern, with the place of each one's sort.
+const KEYS: [(&[u8], usize); 3] = [
+    (b"      uid:", UID_AT),
+    (b"      gid:", GID_AT),
+    (b"      namespace:", NAMESPACE_AT),
+];
+
 /// The values of a context, written or not.
 struct Context<'t> {
     call_context: &'t [u8],
-    uid: &'t [u8],
-    gid: &'t [u8],
+    /// Those of the keys above, in their order.
+    values: [&'t [u8]; 3],
 }
 
 /// Where the lines of the filled text go.
@@ -396,10 +403,10 @@ impl<'t, L: Lines> Pass<'t, '_, L> {
             let at = self.descriptor()?;
             self.grant(at + DESCRIPTOR_GRANT_AT, b"  - objects:", Map::Objects)?;
             let used = self.context(at, b"    object_context:")?;
-            let is_bound = (self.words[at + 1] != VARIABLE || used.uid == bound.uid)
-                && (self.words[at + 2] != VARIABLE || used.gid == bound.gid);
-            if !is_bound {
-                return None;
+            for (place, (_, sort)) in KEYS.into_iter().enumerate() {
+                if self.words[at + sort] == VARIABLE && used.values[place] != bound.values[place] {
+                    return None;
+                }
             }
             count += 1;
         }
@@ -419,8 +426,7 @@ impl<'t, L: Lines> Pass<'t, '_, L> {
     fn context(&mut self, at: usize, key: &[u8]) -> Option<Context<'t>> {
         let mut context = Context {
             call_context: b"[all]",
-            uid: b"all",
-            gid: b"all",
+            values: [b"all"; 3],
         };
         self.words[at] = 1;
         if self.takes(key) && !self.ends(b" all") {
@@ -430,8 +436,9 @@ impl<'t, L: Lines> Pass<'t, '_, L> {
         self.filled.line(key, b"");
         self.filled
             .line(b"      call_context:", context.call_context);
-        self.filled.line(b"      uid:", context.uid);
-        self.filled.line(b"      gid:", context.gid);
+        for ((key, _), value) in KEYS.into_iter().zip(context.values) {
+            self.filled.line(key, value);
+        }
         Some(context)
     }
 
@@ -441,23 +448,17 @@ impl<'t, L: Lines> Pass<'t, '_, L> {
         if self.takes(b"      call_context:") {
             context.call_context = self.pattern(at)?;
         }
-        if self.takes(b"      uid:") {
-            context.uid = self.scalar()?;
-            self.words[at + 1] = match context.uid {
-                b"all" => 0,
-                b"root" => 2,
-                b"user" => 3,
-                _ => VARIABLE,
-            };
-            scalars::is_uid(context.uid).then_some(())?;
-        }
-        if self.takes(b"      gid:") {
-            context.gid = self.scalar()?;
-            self.words[at + 2] = match context.gid {
-                b"all" => 0,
-                _ => VARIABLE,
-            };
-            scalars::is_gid(context.gid).then_some(())?;
+        for ((key, sort), value) in KEYS.into_iter().zip(&mut context.values) {
+            if self.takes(key) {
+                *value = self.scalar()?;
+                self.words[at + sort] = match *value {
+                    b"all" => 0,
+                    b"root" if sort == UID_AT => 2,
+                    b"user" if sort == UID_AT => 3,
+                    name if scalars::is_variable(name) => VARIABLE,
+                    _ => return None,
+                };
+            }
         }
         (self.left.len() < start).then_some(())
     }

@@ -1,7 +1,7 @@
 //! The rules over a whole file: 6, 7, 8, 10, 11, in that order.
 
 use crate::file::{Access, Context, Domain, Entry, File, Item, List, Listed, Word};
-use crate::policy::{self, first_repeat, Descriptor, DomainSet, Element, Gid, Grant, Policy, Uid};
+use crate::policy::{self, first_repeat, Descriptor, DomainSet, Element, Grant, Policy, Sort, Uid};
 use crate::refusal::{Refusal, COUNT, SAME_PRINCIPAL, TWICE, UNBOUND, UNKNOWN};
 use std::collections::{HashMap, HashSet};
 
@@ -107,8 +107,7 @@ fn unbound(file: &File<'_>) -> Vec<u32> {
     let mut lines = Vec::new();
     for entry in &file.privileges {
         for item in entry.items() {
-            let (outer, inner) = (&entry.context, &item.context);
-            for (bound, used) in [(outer.uid, inner.uid), (outer.gid, inner.gid)] {
+            for (bound, used) in keys(&entry.context).into_iter().zip(keys(&item.context)) {
                 let Some(used) = used.filter(is_variable) else {
                     continue;
                 };
@@ -121,10 +120,23 @@ fn unbound(file: &File<'_>) -> Vec<u32> {
     lines
 }
 
-/// Whether a good uid or gid is a variable. A good gid is never `root` or
-/// `user`, so one test serves both.
+/// What stands at the keys that bind.
+fn keys<'t>(context: &Context<'t>) -> [Option<Word<'t>>; 3] {
+    [context.uid, context.gid, context.namespace]
+}
+
+/// Whether a good uid, gid or namespace is a variable. The last two are never
+/// `root` or `user`, so one test serves all.
 fn is_variable(word: &Word<'_>) -> bool {
     !matches!(word.bytes, b"all" | b"root" | b"user")
+}
+
+/// The sort of a good gid or namespace; omitted it is `all`.
+fn sort(word: Option<Word<'_>>) -> Sort {
+    match word.filter(is_variable) {
+        None => Sort::All,
+        Some(_) => Sort::Variable,
+    }
 }
 
 /// Names to numbers, and the lines of names that a map lacks (8).
@@ -234,11 +246,12 @@ impl<'t> Numbers<'t> {
             Some(b"user") => Uid::User,
             Some(_) => Uid::Variable,
         };
-        let gid = match context.gid.map(|word| word.bytes) {
-            None | Some(b"all") => Gid::All,
-            Some(_) => Gid::Variable,
-        };
-        policy::Context { pattern, uid, gid }
+        policy::Context {
+            pattern,
+            uid,
+            gid: sort(context.gid),
+            namespace: sort(context.namespace),
+        }
     }
 
     fn element(&mut self, name: &[u8], line: u32) -> Element {

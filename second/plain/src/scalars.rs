@@ -23,8 +23,8 @@ pub fn is_uid(bytes: &[u8]) -> bool {
     matches!(bytes, b"root" | b"user" | b"all") || is_variable(bytes)
 }
 
-/// "`gid`: `all` or a variable."
-pub fn is_gid(bytes: &[u8]) -> bool {
+/// "`gid`: `all` or a variable"; `namespace` has the same rules.
+pub fn is_all_or_variable(bytes: &[u8]) -> bool {
     bytes == b"all" || is_variable(bytes)
 }
 

@@ -1,7 +1,7 @@
 //! The table, word by word, from docs/TABLE.md alone.
 
 use crate::policy::{
-    Context, Descriptor, Element, Entry, Gid, Grant, Policy, Uid, DESCRIPTORS, DOMAINS, ELEMENTS,
+    Context, Descriptor, Element, Entry, Grant, Policy, Sort, Uid, DESCRIPTORS, DOMAINS, ELEMENTS,
     ENTRIES, MEMBERS,
 };
 
@@ -19,6 +19,9 @@ pub const DESCRIPTORS_AT: usize = 7_712;
 pub const DESCRIPTOR_WORDS: usize = 32;
 pub const UNUSED_AT: usize = 15_904;
 
+pub const UID_AT: usize = 1;
+pub const GID_AT: usize = 2;
+pub const NAMESPACE_AT: usize = 3;
 pub const PATTERN_AT: usize = 4;
 
 /// The word of subject domain 0 in a pattern: those of functions end before it.
@@ -95,22 +98,27 @@ fn put_entry(block: &mut [u16], entry: &Entry) {
 
 fn put_context(block: &mut [u16], context: &Context) {
     block[0] = context.pattern.len() as u16;
-    block[1] = match context.uid {
+    block[UID_AT] = match context.uid {
         Uid::All => 0,
         Uid::Variable => 1,
         Uid::Root => 2,
         Uid::User => 3,
     };
-    block[2] = match context.gid {
-        Gid::All => 0,
-        Gid::Variable => 1,
-    };
+    block[GID_AT] = sort_word(context.gid);
+    block[NAMESPACE_AT] = sort_word(context.namespace);
     for (place, element) in context.pattern.iter().enumerate() {
         block[PATTERN_AT + place] = match element {
             Element::All => 0,
             Element::Function(function) => function + 1,
             Element::Domain(domain) => DOMAIN_WORDS_AT + domain,
         };
+    }
+}
+
+fn sort_word(sort: Sort) -> u16 {
+    match sort {
+        Sort::All => 0,
+        Sort::Variable => 1,
     }
 }
 
@@ -192,16 +200,11 @@ fn get_context(block: &[u16]) -> Option<Context> {
     if !(1..=ELEMENTS).contains(&length) {
         return None;
     }
-    let uid = match block[1] {
+    let uid = match block[UID_AT] {
         0 => Uid::All,
         1 => Uid::Variable,
         2 => Uid::Root,
         3 => Uid::User,
-        _ => return None,
-    };
-    let gid = match block[2] {
-        0 => Gid::All,
-        1 => Gid::Variable,
         _ => return None,
     };
     let element = |&word: &u16| match word {
@@ -210,7 +213,20 @@ fn get_context(block: &[u16]) -> Option<Context> {
         DOMAIN_WORDS_AT.. => Element::Domain(word - DOMAIN_WORDS_AT),
     };
     let pattern = block[PATTERN_AT..][..length].iter().map(element).collect();
-    Some(Context { pattern, uid, gid })
+    Some(Context {
+        pattern,
+        uid,
+        gid: get_sort(block[GID_AT])?,
+        namespace: get_sort(block[NAMESPACE_AT])?,
+    })
+}
+
+fn get_sort(word: u16) -> Option<Sort> {
+    match word {
+        0 => Some(Sort::All),
+        1 => Some(Sort::Variable),
+        _ => None,
+    }
 }
 
 fn get_grant(block: &[u16], count: u16) -> Option<Grant> {

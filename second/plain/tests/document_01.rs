@@ -1,6 +1,6 @@
 //! The example, the trials and the numbers of document 01.
 
-use second::policy::{Context, Descriptor, Element, Entry, Gid, Grant, Policy, Uid};
+use second::policy::{Context, Descriptor, Element, Entry, Grant, Policy, Sort, Uid};
 use second::*;
 
 const FILLED: &str = "- principal:
@@ -9,6 +9,7 @@ const FILLED: &str = "- principal:
       call_context: [all]
       uid: U
       gid: all
+      namespace: all
   can_call: []
   can_return: [Main]
   can_read:
@@ -17,6 +18,7 @@ const FILLED: &str = "- principal:
       call_context: [all]
       uid: all
       gid: all
+      namespace: all
   can_write: []
 ";
 
@@ -36,9 +38,11 @@ fn event(stack: &[u16], uid: u32) -> Event<'_> {
         stack,
         uid,
         gid: 0,
+        namespace: 0,
         allocation: &[],
         allocation_uid: 0,
         allocation_gid: 0,
+        allocation_namespace: 0,
     }
 }
 
@@ -410,7 +414,7 @@ fn slips_to_expect() {
 fn may_read(object: &Context, allocation: &[u16], uids: (u32, u32), gids: (u32, u32)) -> bool {
     let entry = Entry {
         subject: 0,
-        context: context(&[Element::All], Uid::Variable, Gid::Variable),
+        context: context(&[Element::All], Uid::Variable, Sort::Variable),
         can_call: Grant::All,
         can_return: Grant::All,
         can_read: vec![Descriptor {
@@ -430,41 +434,48 @@ fn may_read(object: &Context, allocation: &[u16], uids: (u32, u32), gids: (u32, 
         stack: &[0],
         uid: uids.0,
         gid: gids.0,
+        namespace: 0,
         allocation,
         allocation_uid: uids.1,
         allocation_gid: gids.1,
+        allocation_namespace: 1,
     };
     judge(&encode(&policy).unwrap(), 1, 0, &event) == Verdict::Allowed(0)
 }
 
-fn context(pattern: &[Element], uid: Uid, gid: Gid) -> Context {
+fn context(pattern: &[Element], uid: Uid, gid: Sort) -> Context {
     let pattern = pattern.to_vec();
-    Context { pattern, uid, gid }
+    Context {
+        pattern,
+        uid,
+        gid,
+        ..Context::all()
+    }
 }
 
 #[test]
 fn object_contexts_of_static_and_allocated_objects() {
     let all = [Element::All; 2];
-    let bound = context(&all, Uid::Variable, Gid::Variable);
+    let bound = context(&all, Uid::Variable, Sort::Variable);
     assert!(may_read(&bound, &[5], (7, 7), (8, 8)));
     assert!(!may_read(&bound, &[5], (7, 8), (8, 8)));
     assert!(!may_read(&bound, &[5], (7, 7), (8, 9)));
     assert!(!may_read(&bound, &[], (0, 0), (0, 0)));
-    let open = context(&all, Uid::All, Gid::All);
+    let open = context(&all, Uid::All, Sort::All);
     assert!(may_read(&open, &[], (7, 1), (8, 2)));
-    let named = context(&[Element::Function(0), Element::All], Uid::All, Gid::All);
+    let named = context(&[Element::Function(0), Element::All], Uid::All, Sort::All);
     assert!(may_read(&named, &[0, 900], (0, 1), (0, 1)));
     assert!(!may_read(&named, &[900, 0], (0, 1), (0, 1)));
     assert!(!may_read(&named, &[], (0, 0), (0, 0)));
-    let root = context(&all, Uid::Root, Gid::All);
+    let root = context(&all, Uid::Root, Sort::All);
     assert!(may_read(&root, &[3], (4, 0), (0, 1)));
     assert!(!may_read(&root, &[3], (4, 1), (0, 1)));
     assert!(!may_read(&root, &[], (0, 0), (0, 0)));
-    let user = context(&all, Uid::User, Gid::All);
+    let user = context(&all, Uid::User, Sort::All);
     assert!(may_read(&user, &[3], (0, 1), (0, 1)));
     assert!(!may_read(&user, &[3], (1, 0), (0, 1)));
     assert!(!may_read(&user, &[], (0, 1), (0, 1)));
-    let group = context(&all, Uid::All, Gid::Variable);
+    let group = context(&all, Uid::All, Sort::Variable);
     assert!(!may_read(&group, &[], (0, 0), (0, 0)));
 }
 

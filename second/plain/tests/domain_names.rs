@@ -81,9 +81,11 @@ fn judged(text: &str, operation: u16, target: u16, stack: &[u16], allocation: &[
         stack,
         uid: 5,
         gid: 6,
+        namespace: 7,
         allocation,
         allocation_uid: 5,
         allocation_gid: 6,
+        allocation_namespace: 7,
     };
     judge(&table(text), operation, target, &event)
 }

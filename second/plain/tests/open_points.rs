@@ -466,7 +466,7 @@ fn point_18_same_principals() {
         )))
     };
     let written =
-        "    execution_context:\n      call_context: [all]\n      uid: all\n      gid: all\n";
+        "    execution_context:\n      call_context: [all]\n      uid: all\n      gid: all\n      namespace: all\n";
     let pattern = |p: &str| format!("    execution_context:\n      call_context: [{p}]\n");
     let uid = |u: &str| format!("    execution_context:\n      uid: {u}\n");
     assert_eq!(two("", ""), (11, 8));
@@ -527,9 +527,11 @@ fn points_19_and_20_judge_and_report() {
         stack: &[900, 2],
         uid: 0,
         gid: 0,
+        namespace: 0,
         allocation: &[],
         allocation_uid: 0,
         allocation_gid: 0,
+        allocation_namespace: 0,
     };
     assert_eq!(judge(&any, 3, 0, &event), Verdict::Allowed(0));
 }

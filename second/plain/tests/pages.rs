@@ -211,9 +211,11 @@ fn judged(call: &Call<'_>) -> String {
         stack: &call.frames("stack"),
         uid: call.number("uid"),
         gid: call.number("gid"),
+        namespace: call.number("namespace"),
         allocation: &call.frames("allocation"),
         allocation_uid: call.number("allocation_uid"),
         allocation_gid: call.number("allocation_gid"),
+        allocation_namespace: call.number("allocation_namespace"),
     };
     match judge(&call.table(), operation, target, &event) {
         Verdict::Inside => "allowed inside one domain".to_string(),
@@ -250,7 +252,8 @@ fn filled_into(call: &Call<'_>) -> String {
 
 /// The words that a trial may have, each followed by a value.
 const WORDS: &str = "table word output witness stack read write call return operation \
-                     uid gid allocation allocation_uid allocation_gid";
+                     uid gid namespace allocation allocation_uid allocation_gid \
+                     allocation_namespace";
 
 /// Runs a trial, which must end as it says, and gives the answer.
 fn tried(text: &[u8], trial: &str, place: &str) -> String {

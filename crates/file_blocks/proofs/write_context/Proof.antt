@@ -1,5 +1,5 @@
--- The next field of the pattern's place, and the values of the two other keys, have the context.
-use Rattle.file_fields.proofs.Places.{pattern-fits, uid-fits, gid-fits}
+-- The next field of the pattern's place, and the values of the other keys, have the context.
+use Rattle.file_fields.proofs.Places.{pattern-fits, uid-fits, gid-fits, namespace-fits}
 use Rattle.file_blocks.proofs.Contexts.{pattern-of, context-at}
 use borrow.Author.Needs.{needs}
 use Rattle.file_blocks.proofs.write_context.Statement.{statement}
@@ -29,6 +29,18 @@ slice-aggregate-value-at-4 c = search needs
 value-at-requires-2 : tie.Need-value-at-requires-2
 value-at-requires-2 c κs = search needs
 
+add-value-at-3 : tie.Need-add-value-at-3
+add-value-at-3 c = search (needs, namespace-fits)
+
+slice-aggregate-value-at-5 : tie.Need-slice-aggregate-value-at-5
+slice-aggregate-value-at-5 c = search needs
+
+slice-aggregate-value-at-6 : tie.Need-slice-aggregate-value-at-6
+slice-aggregate-value-at-6 c = search needs
+
+value-at-requires-3 : tie.Need-value-at-requires-3
+value-at-requires-3 c κs = search needs
+
 add-next-at : tie.Need-add-next-at
 add-next-at c = search (needs, pattern-fits)
 
@@ -36,13 +48,18 @@ next-at-requires : tie.Need-next-at-requires
 next-at-requires c κs = search needs
 
 write-keys-requires : tie.Need-write-keys-requires
-write-keys-requires c κs = search (needs, pattern-of)
+write-keys-requires c κs =
+    let pre = c .before .before .before .before .before .before .before .before .before .before .before .before .before .before .before .before .pre in
+    (pre .0 .1, (pattern-of _ _ _ _ _ _ _ _ (c .before .next-at .ensures) (pre .1 .0), pre .1 .1))
 
 same-length : tie.Need-same-length
 same-length c = search needs
 
 returns : tie.Need-returns
-returns c = search (needs, context-at)
+returns c =
+    let pre = c .before .before .before .before .before .before .before .before .before .before .before .before .before .before .before .before .before .before .before .pre in
+    let uid = c .before .before .before .before .before .before .before .before .before .before .before .value-at .ensures in
+    search (needs, context-at, pre, uid)
 
 pub write-context-spec : {M : Type 1} → statement M
 write-context-spec =
@@ -56,6 +73,10 @@ write-context-spec =
     slice-aggregate-value-at-3
     slice-aggregate-value-at-4
     value-at-requires-2
+    add-value-at-3
+    slice-aggregate-value-at-5
+    slice-aggregate-value-at-6
+    value-at-requires-3
     add-next-at
     next-at-requires
     write-keys-requires

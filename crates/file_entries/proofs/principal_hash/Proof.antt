@@ -1,5 +1,5 @@
--- Two hashes and two sorts in one number.
-use Rattle.file_entries.proofs.Omitted.{subject-omitted, pattern-omitted, uid-omitted, gid-omitted}
+-- Two hashes and three sorts in one number.
+use Rattle.file_entries.proofs.Omitted.{subject-omitted, pattern-omitted, uid-omitted, gid-omitted, namespace-omitted}
 use Rattle.file_entries.proofs.Principals.{principal-hash-is}
 use borrow.Author.Needs.{needs}
 use Rattle.file_entries.proofs.principal_hash.Statement.{statement}
@@ -23,6 +23,9 @@ sort-at-requires c κs = search (needs, uid-omitted)
 sort-at-requires-2 : tie.Need-sort-at-requires-2
 sort-at-requires-2 c κs = search (needs, gid-omitted)
 
+sort-at-requires-3 : tie.Need-sort-at-requires-3
+sort-at-requires-3 c κs = search (needs, namespace-omitted)
+
 add-result : tie.Need-add-result
 add-result c = search needs
 
@@ -38,6 +41,12 @@ mul-result-2 c = search needs
 add-result-3 : tie.Need-add-result-3
 add-result-3 c = search needs
 
+mul-result-3 : tie.Need-mul-result-3
+mul-result-3 c = search needs
+
+add-result-4 : tie.Need-add-result-4
+add-result-4 c = search needs
+
 returns : tie.Need-returns
 returns c = search (needs, principal-hash-is)
 
@@ -51,9 +60,12 @@ principal-hash-spec =
     hash-at-requires-2
     sort-at-requires
     sort-at-requires-2
+    sort-at-requires-3
     add-result
     mul-result
     add-result-2
     mul-result-2
     add-result-3
+    mul-result-3
+    add-result-4
     returns)

@@ -1,5 +1,5 @@
 -- Part by part.
-use Rattle.file_entries.proofs.Omitted.{subject-omitted, pattern-omitted, uid-omitted, gid-omitted}
+use Rattle.file_entries.proofs.Omitted.{subject-omitted, pattern-omitted, uid-omitted, gid-omitted, namespace-omitted}
 use Rattle.file_entries.proofs.Principals.{principal-is}
 use borrow.Author.Needs.{needs}
 use Rattle.file_entries.proofs.same_principal.Statement.{statement}
@@ -23,6 +23,9 @@ same-sort-requires c κs = search (needs, uid-omitted)
 same-sort-requires-2 : tie.Need-same-sort-requires-2
 same-sort-requires-2 c κs = search (needs, gid-omitted)
 
+same-sort-requires-3 : tie.Need-same-sort-requires-3
+same-sort-requires-3 c κs = search (needs, namespace-omitted)
+
 returns : tie.Need-returns
 returns c = search (needs, principal-is)
 
@@ -36,4 +39,5 @@ same-principal-spec =
     same-value-requires-2
     same-sort-requires
     same-sort-requires-2
+    same-sort-requires-3
     returns)

@@ -1,4 +1,4 @@
--- The context's own line, then its three keys.
+-- The context's own line, then its four keys.
 use Rattle.file_fields.proofs.Places.{pattern-default, pattern-fits}
 use Rattle.filled_lines.proofs.Writing.{first-room, second-room, third-room, three-wrote}
 use Rattle.filled_parts.proofs.Texts.{context-room, context-wrote}

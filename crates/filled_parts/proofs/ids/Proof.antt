@@ -1,6 +1,6 @@
--- The two lines.
-use Rattle.file_fields.proofs.Places.{uid-default, gid-default, uid-fits, gid-fits}
-use Rattle.filled_lines.proofs.Writing.{first-room, last-room, both-wrote}
+-- The three lines.
+use Rattle.file_fields.proofs.Places.{uid-default, gid-default, namespace-default, uid-fits, gid-fits, namespace-fits}
+use Rattle.filled_lines.proofs.Writing.{first-room, second-room, third-room, three-wrote}
 use Rattle.filled_parts.proofs.Texts.{ids-room, ids-wrote}
 use borrow.Author.Needs.{needs}
 use Rattle.filled_parts.proofs.ids.Statement.{statement}
@@ -11,6 +11,9 @@ add-uid c = search (needs, uid-fits)
 
 add-gid : tie.Need-add-gid
 add-gid c = search (needs, gid-fits)
+
+add-namespace : tie.Need-add-namespace
+add-namespace c = search (needs, namespace-fits)
 
 slice-aggregate-value-line : tie.Need-slice-aggregate-value-line
 slice-aggregate-value-line c = search needs
@@ -31,7 +34,25 @@ part-value-line-end : tie.Need-part-value-line-end
 part-value-line-end c = search needs
 
 value-line-requires-2 : tie.Need-value-line-requires-2
-value-line-requires-2 c κs = (search needs, (search (needs, gid-default), search (needs, last-room, ids-room)))
+value-line-requires-2 c κs = (search needs, (search (needs, gid-default), search (needs, second-room, ids-room)))
+
+add-b : tie.Need-add-b
+add-b c = search needs
+
+slice-aggregate-value-line-3 : tie.Need-slice-aggregate-value-line-3
+slice-aggregate-value-line-3 c = search needs
+
+sub-value-line-2 : tie.Need-sub-value-line-2
+sub-value-line-2 c = search needs
+
+part-value-line-start-2 : tie.Need-part-value-line-start-2
+part-value-line-start-2 c = search needs
+
+part-value-line-end-2 : tie.Need-part-value-line-end-2
+part-value-line-end-2 c = search needs
+
+value-line-requires-3 : tie.Need-value-line-requires-3
+value-line-requires-3 c κs = (search needs, (search (needs, namespace-default), search (needs, third-room, ids-room)))
 
 add-result : tie.Need-add-result
 add-result c = search needs
@@ -40,7 +61,7 @@ same-length : tie.Need-same-length
 same-length c = search needs
 
 returns : tie.Need-returns
-returns c = search (needs, ids-wrote, both-wrote)
+returns c = search (needs, ids-wrote, three-wrote)
 
 pub ids-spec : {M : Type 1} → statement M
 ids-spec =
@@ -48,6 +69,7 @@ ids-spec =
     (tie.spec
     add-uid
     add-gid
+    add-namespace
     slice-aggregate-value-line
     value-line-requires
     slice-aggregate-value-line-2
@@ -55,6 +77,12 @@ ids-spec =
     part-value-line-start
     part-value-line-end
     value-line-requires-2
+    add-b
+    slice-aggregate-value-line-3
+    sub-value-line-2
+    part-value-line-start-2
+    part-value-line-end-2
+    value-line-requires-3
     add-result
     same-length
     returns)

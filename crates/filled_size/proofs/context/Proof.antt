@@ -1,5 +1,5 @@
--- The four lines, each of its place.
-use Rattle.file_fields.proofs.Places.{pattern-default, uid-default, gid-default, pattern-fits, uid-fits, gid-fits}
+-- The five lines, each of its place.
+use Rattle.file_fields.proofs.Places.{pattern-default, uid-default, gid-default, namespace-default, pattern-fits, uid-fits, gid-fits, namespace-fits}
 use Rattle.filled_size.proofs.Texts.{context-length}
 use borrow.Author.Needs.{needs}
 use Rattle.filled_size.proofs.context.Statement.{statement}
@@ -32,6 +32,15 @@ slice-aggregate-value-line-3 c = search needs
 value-line-requires-3 : tie.Need-value-line-requires-3
 value-line-requires-3 c κs = search (needs, gid-default)
 
+add-value-line-4 : tie.Need-add-value-line-4
+add-value-line-4 c = search (needs, namespace-fits)
+
+slice-aggregate-value-line-4 : tie.Need-slice-aggregate-value-line-4
+slice-aggregate-value-line-4 c = search needs
+
+value-line-requires-4 : tie.Need-value-line-requires-4
+value-line-requires-4 c κs = search (needs, namespace-default)
+
 bare-line-requires : tie.Need-bare-line-requires
 bare-line-requires c κs = search needs
 
@@ -43,6 +52,9 @@ add-result-2 c = search needs
 
 add-result-3 : tie.Need-add-result-3
 add-result-3 c = search needs
+
+add-result-4 : tie.Need-add-result-4
+add-result-4 c = search needs
 
 returns : tie.Need-returns
 returns c = search (needs, context-length)
@@ -60,8 +72,12 @@ context-spec =
     add-value-line-3
     slice-aggregate-value-line-3
     value-line-requires-3
+    add-value-line-4
+    slice-aggregate-value-line-4
+    value-line-requires-4
     bare-line-requires
     add-result
     add-result-2
     add-result-3
+    add-result-4
     returns)

@@ -1,5 +1,5 @@
 -- Each test that fails decides, and the elements once none did.
-use Rattle.table_blocks.proofs.Laws.{pattern-empty, pattern-long, uid-of-no-sort, gid-of-no-sort, context-spare-used, elements-decide}
+use Rattle.table_blocks.proofs.Laws.{pattern-empty, pattern-long, uid-of-no-sort, gid-of-no-sort, namespace-of-no-sort, elements-decide}
 use borrow.Author.Needs.{needs}
 use Rattle.table_blocks.proofs.context_fits.Statement.{statement}
 use Rattle.table_blocks.proofs.context_fits.Tie as tie
@@ -38,7 +38,7 @@ word-requires-3 : tie.Need-word-requires-3
 word-requires-3 c κs = search needs
 
 returns-5 : tie.Need-returns-5
-returns-5 c = search (needs, context-spare-used)
+returns-5 c = search (needs, namespace-of-no-sort)
 
 elements-fit-requires : tie.Need-elements-fit-requires
 elements-fit-requires c κs = search needs

@@ -118,8 +118,14 @@ stands-at-requires-18 c κs = search needs
 enum-told-19 : tie.Need-enum-told-19
 enum-told-19 c = search needs
 
+enum-told-20 : tie.Need-enum-told-20
+enum-told-20 c = search needs
+
 stands-at-requires-19 : tie.Need-stands-at-requires-19
 stands-at-requires-19 c κs = search needs
+
+stands-at-requires-20 : tie.Need-stands-at-requires-20
+stands-at-requires-20 c κs = search needs
 
 returns : tie.Need-returns
 unfolding column isFrontOf dashed
@@ -197,6 +203,10 @@ returns-19 : tie.Need-returns-19
 unfolding column isFrontOf dashed
 returns-19 c = search (needs, column-of, dashed-of)
 
+returns-20 : tie.Need-returns-20
+unfolding column isFrontOf dashed
+returns-20 c = search (needs, column-of, dashed-of)
+
 pub key-stand-spec : {M : Type 1} → statement M
 key-stand-spec =
     tie.close
@@ -239,6 +249,8 @@ key-stand-spec =
     stands-at-requires-18
     enum-told-19
     stands-at-requires-19
+    enum-told-20
+    stands-at-requires-20
     returns
     returns-2
     returns-3
@@ -257,4 +269,5 @@ key-stand-spec =
     returns-16
     returns-17
     returns-18
-    returns-19)
+    returns-19
+    returns-20)

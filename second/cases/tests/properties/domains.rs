@@ -7,7 +7,7 @@ use cases::{events, Dice};
 use second::file::{Context as Written, Domain, File, Word};
 use second::judge::judge_policy;
 use second::overlap::first_clash;
-use second::policy::{Element, Entry, Policy};
+use second::policy::{Context, Element, Entry, Policy, Sort, Uid};
 use second::refusal::{SCALAR, UNKNOWN};
 use second::table::{DESCRIPTORS_AT, DOMAIN_WORDS_AT, PATTERN_AT};
 use second::*;
@@ -70,6 +70,11 @@ fn note_sorts(mix: &mut Mix, whose: &str, pattern: &[Element]) {
     }
 }
 
+/// The sorts of uid, gid and namespace.
+fn sorts(context: &Context) -> (Uid, Sort, Sort) {
+    (context.uid, context.gid, context.namespace)
+}
+
 /// Whether two principals differ only where one names a function and the other
 /// its domain.
 fn has_restated(policy: &Policy) -> bool {
@@ -81,7 +86,7 @@ fn has_restated(policy: &Policy) -> bool {
             _ => false,
         };
         one.subject == other.subject
-            && (one_context.uid, one_context.gid) == (other_context.uid, other_context.gid)
+            && sorts(one_context) == sorts(other_context)
             && one_context.pattern.len() == other_context.pattern.len()
             && pairs.all(|(a, b)| a == b || is_met(a, b) || is_met(b, a))
     };

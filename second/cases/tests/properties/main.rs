@@ -5,9 +5,10 @@
 
 mod domains;
 mod line_ends;
+mod namespaces;
 
 use cases::{events, limits, tables, texts, Dice};
-use second::policy::{Context, Element, Entry, Gid, Grant, Policy, Uid};
+use second::policy::{Context, Element, Entry, Grant, Policy, Uid};
 use second::*;
 use std::collections::BTreeMap;
 
@@ -288,7 +289,7 @@ fn most_generated_good_texts_are_good() {
 /// The words a table uses, asked word by word: another way to say "zeros in
 /// unused words".
 fn is_used(policy: &Policy, place: usize) -> bool {
-    let context = |place: usize, pattern: usize| place < 3 || (4..4 + pattern).contains(&place);
+    let context = |place: usize, pattern: usize| place < 4 + pattern;
     let grant = |place: usize, start: usize| (start..start + 9).contains(&place);
     let descriptors: Vec<_> = policy
         .entries
@@ -591,8 +592,7 @@ fn slow_policy(named: fn(u16) -> Element) -> Policy {
             subject: 0,
             context: Context {
                 pattern,
-                uid: Uid::All,
-                gid: Gid::All,
+                ..Context::all()
             },
             can_call: Grant::All,
             can_return: Grant::All,

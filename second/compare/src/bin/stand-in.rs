@@ -3,6 +3,7 @@
 //! itself: see `tests/stand_ins.rs`.
 #![forbid(unsafe_code)]
 
+use cases::namespaces::without;
 use cases::patterns::{has_domain, with_domains_as, Whose};
 use compare::lent::{Lent, Value};
 use compare::wire::{Call, Function, CALL, LEND, SHOW, TIME, WHAT_IS_HERE};
@@ -13,11 +14,11 @@ use second::names::{self, Kind, FOUR};
 use second::policy::{first_repeat, Context, Element, Policy, DESCRIPTORS, ELEMENTS, ENTRIES};
 use second::refusal::{
     EMPTY, LAYOUT, LONG_FILLED, NOT_WELL_FORMED, SAME_PRINCIPAL, SCALAR, SHORT_OUTPUT, SHORT_TABLE,
-    TWICE, UNKNOWN,
+    TWICE, UNBOUND, UNKNOWN,
 };
 use second::table::{
-    DESCRIPTORS_AT, DESCRIPTOR_WORDS, DOMAIN_WORDS_AT, ENTRIES_AT, ENTRY_WORDS, PATTERN_AT,
-    UNUSED_AT,
+    DESCRIPTORS_AT, DESCRIPTOR_WORDS, DOMAIN_WORDS_AT, ENTRIES_AT, ENTRY_WORDS, NAMESPACE_AT,
+    PATTERN_AT, UNUSED_AT,
 };
 use second::{
     decode, encode, filled, filler, find, first_fault, page, well_formed, Event, Map, Overlap,
@@ -95,7 +96,7 @@ fn call(left: &mut &[u8]) -> Call {
     Call {
         function: number(left),
         slots: [(); 3].map(|()| number(left)),
-        numbers: [(); 6].map(|()| number(left)),
+        numbers: [(); 8].map(|()| number(left)),
     }
 }
 
@@ -184,12 +185,37 @@ fn written<T: Value + Default>(
     answer
 }
 
-/// The place of every element of a pattern, used or not.
-fn element_places() -> impl Iterator<Item = usize> {
+/// The place of every context, used or not.
+fn context_places() -> impl Iterator<Item = usize> {
     let entries = (0..ENTRIES).map(|number| ENTRIES_AT + ENTRY_WORDS * number);
     let descriptors = (0..DESCRIPTORS).map(|number| DESCRIPTORS_AT + DESCRIPTOR_WORDS * number);
-    let blocks = entries.chain(descriptors);
-    blocks.flat_map(|block| (0..ELEMENTS).map(move |element| block + PATTERN_AT + element))
+    entries.chain(descriptors)
+}
+
+/// The place of every element of a pattern.
+fn element_places() -> impl Iterator<Item = usize> {
+    let elements = |block| (0..ELEMENTS).map(move |element| block + PATTERN_AT + element);
+    context_places().flat_map(elements)
+}
+
+/// The place of every sort of a namespace.
+fn namespace_places() -> impl Iterator<Item = usize> {
+    context_places().map(|block| block + NAMESPACE_AT)
+}
+
+/// Puts `all` at every namespace of a table.
+fn clear_namespaces(table: &mut [u16]) {
+    for place in namespace_places() {
+        if let Some(word) = table.get_mut(place) {
+            *word = 0;
+        }
+    }
+}
+
+/// Whether two principals are the same but for the sort of their namespace.
+fn has_like_namespaces(table: &[u16]) -> bool {
+    let has = |policy: Policy| first_repeat(&without(&policy, Whose::Entry).entries).is_some();
+    decode(table).is_some_and(has)
 }
 
 /// Changes the elements of a table that are domains by their words.
@@ -214,6 +240,18 @@ fn is_well_formed(fault: &str, table: &[u16]) -> bool {
             well_formed(table) || with_domains(|word| word.min(DOMAIN_WORDS_AT))
         }
         "no domain is an element" => with_domains(|_| DOMAIN_WORDS_AT - 1),
+        "word 3 of a context is unused" => {
+            let mut words = namespace_places().filter_map(|place| table.get(place));
+            well_formed(table) && words.all(|word| *word == 0)
+        }
+        "word 3 of a context is not looked at" => {
+            let mut table = table.to_vec();
+            clear_namespaces(&mut table);
+            well_formed(&table)
+        }
+        "a namespace is left out of the principal" => {
+            well_formed(table) && !has_like_namespaces(table)
+        }
         "words after the descriptors are not looked at" => {
             let mut table = table.to_vec();
             let end = table.len().min(TABLE_WORDS);
@@ -231,16 +269,25 @@ fn judged(
     stack: &Lent<u16>,
     allocation: &Lent<u16>,
 ) -> u64 {
-    let [operation, target, uid, gid, allocation_uid, allocation_gid] = call.numbers;
+    let [operation, target, uid, gid, namespace, allocation_uid, allocation_gid, allocation_namespace] =
+        call.numbers;
     let event = Event {
         stack: stack.get(),
         uid,
         gid,
+        namespace: match fault {
+            "a namespace is bound to the gid" => gid,
+            _ => namespace,
+        },
         allocation: allocation.get(),
         allocation_uid,
         allocation_gid: match fault {
             "gid is not looked at" => gid,
             _ => allocation_gid,
+        },
+        allocation_namespace: match fault {
+            "a namespace is not looked at" => namespace,
+            _ => allocation_namespace,
         },
     };
     let (operation, target) = (operation as u16, target as u16);
@@ -278,6 +325,7 @@ fn mistaken(fault: &str, mut policy: Policy, is_static: bool) -> Policy {
         "a domain meets no frame of an allocation" => {
             with(Whose::Object, &|_| Element::Function(NOBODY))
         }
+        "a namespace fits a static object" if is_static => without(&policy, Whose::Object),
         "a domain fits a static object" if is_static => with(Whose::Object, &|_| Element::All),
         "an unlisted frame lies in domain 0" => {
             policy.functions.resize(1 << 16, 0);
@@ -430,6 +478,16 @@ fn taken(fault: &str, text: &[u8], table: &mut [u16]) -> u64 {
         ("principals are compared by what they meet", 0) if has_like_principals(table) => {
             answer = Refusal::answer(Some(Refusal::at(SAME_PRINCIPAL, 1)));
         }
+        ("a namespace is left out of the principal", 0) if has_like_namespaces(table) => {
+            answer = Refusal::answer(Some(Refusal::at(SAME_PRINCIPAL, 1)));
+        }
+        ("a namespace is not read", 0) => clear_namespaces(table),
+        ("a namespace is bound by any word", UNBOUND) if is_namespace(text, answer.rest) => {
+            answer = Refusal::answer(None);
+        }
+        ("a namespace is taken as a uid", SCALAR) if is_namespace(text, answer.rest) => {
+            answer = Refusal::answer(None);
+        }
         ("an unknown name is refused as a repeat", UNKNOWN) => answer.value = TWICE,
         ("a repeat is on the line before", TWICE) => answer.rest -= 1,
         ("word 16,384 is changed", _) if table.len() > TABLE_WORDS => table[TABLE_WORDS] = 0,
@@ -451,6 +509,13 @@ fn is_pattern(text: &[u8], line: u32, is_such: impl Fn(&str) -> bool) -> bool {
     let line = text.lines().nth(line as usize - 1).unwrap_or_default();
     let list = line.strip_prefix("      call_context: [");
     list.is_some_and(|list| list.trim_end_matches(']').split(", ").any(is_such))
+}
+
+/// Whether this line of a text has the key of a namespace.
+fn is_namespace(text: &[u8], line: u32) -> bool {
+    let mut lines = text.split(|&byte| byte == b'\n');
+    let line = lines.nth(line as usize - 1).unwrap_or_default();
+    line.starts_with(b"      namespace:")
 }
 
 fn is_object_domain(text: &[u8], name: &str) -> bool {
@@ -499,6 +564,13 @@ fn filled_out(fault: &str, text: &[u8], output: &mut [u8]) -> u64 {
                 output[..other.len()].copy_from_slice(&other);
                 filling = Ok(other.len());
             }
+        }
+        ("a context of three keys is filled", Ok(size)) => {
+            let lines = output[..size].split_inclusive(|&byte| byte == b'\n');
+            let kept = lines.filter(|line| *line != b"      namespace: all\n");
+            let other = kept.collect::<Vec<_>>().concat();
+            output[..other.len()].copy_from_slice(&other);
+            filling = Ok(other.len());
         }
         ("the byte behind the filled text is cleared", Ok(size)) if size < room => output[size] = 0,
         ("a refused text is written", Err(_)) if room > 0 => output[0] = 0,

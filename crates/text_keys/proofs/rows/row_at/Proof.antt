@@ -55,17 +55,17 @@ field-requires-5 c κs = search needs
 field-requires-6 : tie.Need-field-requires-6
 field-requires-6 c κs = search needs
 
-access-requires : tie.Need-access-requires
-access-requires c κs = search needs
-
 field-requires-7 : tie.Need-field-requires-7
 field-requires-7 c κs = search needs
 
-context-requires-2 : tie.Need-context-requires-2
-context-requires-2 c κs = search needs
+access-requires : tie.Need-access-requires
+access-requires c κs = search needs
 
 field-requires-8 : tie.Need-field-requires-8
 field-requires-8 c κs = search needs
+
+context-requires-2 : tie.Need-context-requires-2
+context-requires-2 c κs = search needs
 
 field-requires-9 : tie.Need-field-requires-9
 field-requires-9 c κs = search needs
@@ -73,23 +73,32 @@ field-requires-9 c κs = search needs
 field-requires-10 : tie.Need-field-requires-10
 field-requires-10 c κs = search needs
 
-access-requires-2 : tie.Need-access-requires-2
-access-requires-2 c κs = search needs
-
 field-requires-11 : tie.Need-field-requires-11
 field-requires-11 c κs = search needs
-
-context-requires-3 : tie.Need-context-requires-3
-context-requires-3 c κs = search needs
 
 field-requires-12 : tie.Need-field-requires-12
 field-requires-12 c κs = search needs
 
+access-requires-2 : tie.Need-access-requires-2
+access-requires-2 c κs = search needs
+
 field-requires-13 : tie.Need-field-requires-13
 field-requires-13 c κs = search needs
 
+context-requires-3 : tie.Need-context-requires-3
+context-requires-3 c κs = search needs
+
 field-requires-14 : tie.Need-field-requires-14
 field-requires-14 c κs = search needs
+
+field-requires-15 : tie.Need-field-requires-15
+field-requires-15 c κs = search needs
+
+field-requires-16 : tie.Need-field-requires-16
+field-requires-16 c κs = search needs
+
+field-requires-17 : tie.Need-field-requires-17
+field-requires-17 c κs = search needs
 
 required-requires-6 : tie.Need-required-requires-6
 required-requires-6 c κs = search needs
@@ -160,19 +169,19 @@ returns-16 c = row-is _ 15 _ _ (c .before .match .keys16) (c .field6 .ensures) r
 
 returns-17 : tie.Need-returns-17
 unfolding rowAt listing placesUpTo
-returns-17 c = row-is _ 16 _ _ (c .before .match .keys17) (c .access .ensures) refl
+returns-17 c = row-is _ 16 _ _ (c .before .match .keys17) (c .field7 .ensures) refl
 
 returns-18 : tie.Need-returns-18
 unfolding rowAt listing placesUpTo
-returns-18 c = row-is _ 17 _ _ (c .before .match .keys18) (c .field7 .ensures) refl
+returns-18 c = row-is _ 17 _ _ (c .before .match .keys18) (c .access .ensures) refl
 
 returns-19 : tie.Need-returns-19
 unfolding rowAt listing placesUpTo
-returns-19 c = row-is _ 18 _ _ (c .before .match .keys19) (c .context2 .ensures) refl
+returns-19 c = row-is _ 18 _ _ (c .before .match .keys19) (c .field8 .ensures) refl
 
 returns-20 : tie.Need-returns-20
 unfolding rowAt listing placesUpTo
-returns-20 c = row-is _ 19 _ _ (c .before .match .keys20) (c .field8 .ensures) refl
+returns-20 c = row-is _ 19 _ _ (c .before .match .keys20) (c .context2 .ensures) refl
 
 returns-21 : tie.Need-returns-21
 unfolding rowAt listing placesUpTo
@@ -184,30 +193,42 @@ returns-22 c = row-is _ 21 _ _ (c .before .match .keys22) (c .field10 .ensures) 
 
 returns-23 : tie.Need-returns-23
 unfolding rowAt listing placesUpTo
-returns-23 c = row-is _ 22 _ _ (c .before .match .keys23) (c .access2 .ensures) refl
+returns-23 c = row-is _ 22 _ _ (c .before .match .keys23) (c .field11 .ensures) refl
 
 returns-24 : tie.Need-returns-24
 unfolding rowAt listing placesUpTo
-returns-24 c = row-is _ 23 _ _ (c .before .match .keys24) (c .field11 .ensures) refl
+returns-24 c = row-is _ 23 _ _ (c .before .match .keys24) (c .field12 .ensures) refl
 
 returns-25 : tie.Need-returns-25
 unfolding rowAt listing placesUpTo
-returns-25 c = row-is _ 24 _ _ (c .before .match .keys25) (c .context3 .ensures) refl
+returns-25 c = row-is _ 24 _ _ (c .before .match .keys25) (c .access2 .ensures) refl
 
 returns-26 : tie.Need-returns-26
 unfolding rowAt listing placesUpTo
-returns-26 c = row-is _ 25 _ _ (c .before .match .keys26) (c .field12 .ensures) refl
+returns-26 c = row-is _ 25 _ _ (c .before .match .keys26) (c .field13 .ensures) refl
 
 returns-27 : tie.Need-returns-27
 unfolding rowAt listing placesUpTo
-returns-27 c = row-is _ 26 _ _ (c .before .match .keys27) (c .field13 .ensures) refl
+returns-27 c = row-is _ 26 _ _ (c .before .match .keys27) (c .context3 .ensures) refl
 
 returns-28 : tie.Need-returns-28
 unfolding rowAt listing placesUpTo
 returns-28 c = row-is _ 27 _ _ (c .before .match .keys28) (c .field14 .ensures) refl
 
 returns-29 : tie.Need-returns-29
-returns-29 c = row-past _ _ (none-of 28 _ (c .before .match .rest)) (c .required6 .ensures)
+unfolding rowAt listing placesUpTo
+returns-29 c = row-is _ 28 _ _ (c .before .match .keys29) (c .field15 .ensures) refl
+
+returns-30 : tie.Need-returns-30
+unfolding rowAt listing placesUpTo
+returns-30 c = row-is _ 29 _ _ (c .before .match .keys30) (c .field16 .ensures) refl
+
+returns-31 : tie.Need-returns-31
+unfolding rowAt listing placesUpTo
+returns-31 c = row-is _ 30 _ _ (c .before .match .keys31) (c .field17 .ensures) refl
+
+returns-32 : tie.Need-returns-32
+returns-32 c = row-past _ _ (none-of 31 _ (c .before .match .rest)) (c .required6 .ensures)
 
 pub row-at-spec : {M : Type 1} → statement M
 row-at-spec =
@@ -229,18 +250,21 @@ row-at-spec =
     field-requires-4
     field-requires-5
     field-requires-6
-    access-requires
     field-requires-7
-    context-requires-2
+    access-requires
     field-requires-8
+    context-requires-2
     field-requires-9
     field-requires-10
-    access-requires-2
     field-requires-11
-    context-requires-3
     field-requires-12
+    access-requires-2
     field-requires-13
+    context-requires-3
     field-requires-14
+    field-requires-15
+    field-requires-16
+    field-requires-17
     required-requires-6
     returns
     returns-2
@@ -270,4 +294,7 @@ row-at-spec =
     returns-26
     returns-27
     returns-28
-    returns-29)
+    returns-29
+    returns-30
+    returns-31
+    returns-32)

@@ -1,0 +1,58 @@
+-- Key by key: uid and gid that do not fit decide, else the namespace does.
+use Rattle.judge_match.proofs.Laws.{allocated-uid, allocated-gid, allocated-namespace-decides}
+use borrow.Author.Needs.{needs}
+use Rattle.judge_match.proofs.allocated_sorts_fit.Statement.{statement}
+use Rattle.judge_match.proofs.allocated_sorts_fit.Tie as tie
+
+add-word : tie.Need-add-word
+add-word c = search needs
+
+word-requires : tie.Need-word-requires
+word-requires c κs = search needs
+
+allocated-sort-fits-requires : tie.Need-allocated-sort-fits-requires
+allocated-sort-fits-requires c κs = search needs
+
+returns : tie.Need-returns
+returns c = search (needs, allocated-uid)
+
+add-word-2 : tie.Need-add-word-2
+add-word-2 c = search needs
+
+word-requires-2 : tie.Need-word-requires-2
+word-requires-2 c κs = search needs
+
+allocated-sort-fits-requires-2 : tie.Need-allocated-sort-fits-requires-2
+allocated-sort-fits-requires-2 c κs = search needs
+
+returns-2 : tie.Need-returns-2
+returns-2 c = search (needs, allocated-gid)
+
+add-word-3 : tie.Need-add-word-3
+add-word-3 c = search needs
+
+word-requires-3 : tie.Need-word-requires-3
+word-requires-3 c κs = search needs
+
+allocated-sort-fits-requires-3 : tie.Need-allocated-sort-fits-requires-3
+allocated-sort-fits-requires-3 c κs = search needs
+
+returns-3 : tie.Need-returns-3
+returns-3 c = search (needs, allocated-namespace-decides)
+
+pub allocated-sorts-fit-spec : {M : Type 1} → statement M
+allocated-sorts-fit-spec =
+    tie.close
+    (tie.spec
+    add-word
+    word-requires
+    allocated-sort-fits-requires
+    returns
+    add-word-2
+    word-requires-2
+    allocated-sort-fits-requires-2
+    returns-2
+    add-word-3
+    word-requires-3
+    allocated-sort-fits-requires-3
+    returns-3)
