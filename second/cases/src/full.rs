@@ -12,6 +12,35 @@ use second::policy::{
 /// of its own number.
 const POOL: usize = 8;
 
+/// How many frames the stacks of events have, from one number to another.
+#[derive(Clone, Copy, Debug)]
+pub struct Frames {
+    pub name: &'static str,
+    pub least: usize,
+    pub most: usize,
+}
+
+/// Short stacks, and the longest.
+pub const FRAMES: [Frames; 2] = [
+    Frames {
+        name: "1 to 8 frames",
+        least: 1,
+        most: 8,
+    },
+    Frames {
+        name: "64 frames",
+        least: 64,
+        most: 64,
+    },
+];
+
+impl Frames {
+    pub fn event(self, dice: &mut Dice) -> OwnEvent {
+        let frames = dice.from_to(self.least, self.most);
+        event(dice, frames)
+    }
+}
+
 /// In so many of a hundred elements that are not `all` the patterns name the
 /// domain and not the function.
 pub fn policy(dice: &mut Dice, domains: usize) -> Policy {
@@ -114,7 +143,7 @@ fn grant(dice: &mut Dice) -> Grant {
 
 /// An event with so many frames on its stack, and on its allocation stack if
 /// it has one.
-pub fn event(dice: &mut Dice, frames: usize) -> OwnEvent {
+fn event(dice: &mut Dice, frames: usize) -> OwnEvent {
     let stack =
         |dice: &mut Dice| -> Vec<u16> { (0..frames).map(|_| dice.below(POOL) as u16).collect() };
     let mut running = stack(dice);

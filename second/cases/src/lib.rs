@@ -5,6 +5,7 @@
 //! small pools, so that matches, clashes, grants and repeats happen often.
 #![forbid(unsafe_code)]
 
+pub mod bursts;
 pub mod damage;
 pub mod dice;
 pub mod draft;

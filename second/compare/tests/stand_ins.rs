@@ -623,6 +623,13 @@ fn bench_times_a_stand_in_and_finds_other_answers() {
         "domains: the table test",
         "domains: the report",
         "domains: 64 frames",
+        "other subjects, 1 to 8 frames",
+        "sixteen alls, 64 frames",
+        "[all, f, .., f], 64 frames",
+        "allowed early, 1 to 8 frames",
+        "allowed late, 64 frames",
+        "never allowed, 1 to 8 frames",
+        "allocated reads, 64 frames",
     ];
     for row in rows {
         assert!(printed.contains(row), "{printed}");

@@ -16,6 +16,7 @@ pub mod page;
 pub mod policy;
 pub mod program;
 pub mod quick;
+pub mod quick_judge;
 pub mod reader;
 pub mod refusal;
 pub mod rules;

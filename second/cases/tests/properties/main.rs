@@ -6,6 +6,7 @@
 mod domains;
 mod line_ends;
 mod namespaces;
+mod quick_judge;
 
 use cases::{events, limits, tables, texts, Dice};
 use second::policy::{Context, Element, Entry, Grant, Policy, Uid};

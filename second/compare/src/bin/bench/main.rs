@@ -4,19 +4,21 @@
 //! Both read and fill the same large texts. Both judge the same events under the
 //! same table, which has 128 entries and 256 descriptors, and report on a table
 //! of 128 full patterns of one subject with no clash; then on tables whose
-//! patterns name domains too. The proved one is timed inside the bridge, so that
-//! no pipe is measured.
+//! patterns name domains too. Then both judge bursts of events under tables of
+//! other sorts. The proved one is timed inside the bridge, so that no pipe is
+//! measured.
 #![forbid(unsafe_code)]
 
 mod texts;
 mod timing;
 
+use cases::bursts::{Burst, BURSTS};
 use cases::events::OwnEvent;
-use cases::{full, Dice};
+use cases::full::{self, FRAMES};
+use cases::Dice;
 use compare::wire::{Call, Function, Requests};
 use compare::{judge, Bridge};
-use second::judge::judge_policy;
-use second::{decode, encode, Verdict, WITNESS_WORDS};
+use second::{encode, quick_judge, Policy, Verdict, WITNESS_WORDS};
 use std::hint::black_box;
 use std::process::ExitCode;
 use timing::{exchange, row, Bench, Calls, LEAST_RUNS};
@@ -85,21 +87,54 @@ fn bench(asked: &Asked) -> Result<(), String> {
     say_how(&bench);
     texts::rows(&mut bench)?;
     let mut dice = Dice::new(asked.seed);
-    for (begin, domains) in TABLES {
-        let words = encode(&full::policy(&mut dice, domains)).ok_or("no table")?;
-        let mut lent = Requests::default();
-        lent.lend(TABLE, &words);
-        exchange(&mut bench.bridge, lent)?;
-        table_test(&mut bench, &words, begin)?;
-        report(&mut bench, domains > 0, begin)?;
-        for (stacks, least, most) in [("1 to 8 frames", 1, 8), ("64 frames", 64, 64)] {
-            let one = |_| {
-                let frames = dice.from_to(least, most);
-                full::event(&mut dice, frames)
-            };
-            let events: Vec<OwnEvent> = (0..asked.events).map(one).collect();
-            judging(&mut bench, &words, &events, &format!("{begin}{stacks}"))?;
-        }
+    for table in TABLES {
+        full_table(&mut bench, &mut dice, table, asked.events)?;
+    }
+    for sort in BURSTS {
+        burst(&mut bench, &mut dice, sort, asked.events)?;
+    }
+    Ok(())
+}
+
+/// The test of a full table, the report of one, and so many events with short
+/// stacks and with long ones.
+fn full_table(
+    bench: &mut Bench,
+    dice: &mut Dice,
+    (begin, domains): (&str, usize),
+    count: usize,
+) -> Result<(), String> {
+    let words = lend_table(bench, &full::policy(dice, domains))?;
+    table_test(bench, &words, begin)?;
+    report(bench, domains > 0, begin)?;
+    for frames in FRAMES {
+        let events: Vec<OwnEvent> = (0..count).map(|_| frames.event(dice)).collect();
+        let share = &events[..count.div_ceil(TESTED_SHARE)];
+        let stacks = format!("{begin}{}", frames.name);
+        judging(bench, &words, &events, format!("{stacks}, no table test"))?;
+        testing(bench, &words, share, format!("{stacks}, table test each"))?;
+    }
+    Ok(())
+}
+
+/// Lends the table of a policy.
+fn lend_table(bench: &mut Bench, policy: &Policy) -> Result<Vec<u16>, String> {
+    let words = encode(policy).ok_or("no table")?;
+    let mut lent = Requests::default();
+    lent.lend(TABLE, &words);
+    exchange(&mut bench.bridge, lent)?;
+    Ok(words)
+}
+
+/// So many events of a burst with short stacks, and with long ones.
+fn burst(bench: &mut Bench, dice: &mut Dice, burst: Burst, count: usize) -> Result<(), String> {
+    let words = lend_table(bench, &burst.policy(dice))?;
+    for frames in FRAMES {
+        let name = format!("{}, {}", burst.name(), frames.name);
+        let one = |_| burst.event(dice, &words, frames);
+        let events: Option<Vec<OwnEvent>> = (0..count).map(one).collect();
+        let events = events.ok_or(format!("too few events: {name}"))?;
+        judging(bench, &words, &events, name)?;
     }
     Ok(())
 }
@@ -149,29 +184,37 @@ fn report(bench: &mut Bench, has_domains: bool, begin: &str) -> Result<(), Strin
     })
 }
 
-/// These events, and a share of them with a test of the table at each.
+/// Lends these events and judges them under a table that is known to be well formed.
 fn judging(
     bench: &mut Bench,
     words: &[u16],
     events: &[OwnEvent],
-    stacks: &str,
+    name: String,
 ) -> Result<(), String> {
-    let policy = decode(words).ok_or("no policy")?;
     exchange(&mut bench.bridge, lend(events))?;
-    let known = |e: &OwnEvent| judge_policy(&policy, e.operation, e.target, &e.lent());
+    let known =
+        |e: &OwnEvent| quick_judge::judge_known(black_box(words), e.operation, e.target, &e.lent());
     let calls = Calls {
-        name: format!("{stacks}, no table test"),
+        name,
         function: Function::JudgeKnown,
         all: &calls(Function::JudgeKnown, events),
     };
-    row(bench, &calls, || sum(events, known))?;
+    row(bench, &calls, || sum(events, known))
+}
 
-    let events = &events[..events.len().div_ceil(TESTED_SHARE)];
-    let tested = |e: &OwnEvent| second::judge(words, e.operation, e.target, &e.lent());
+/// The first of these events once more, with a test of the table at each.
+fn testing(
+    bench: &mut Bench,
+    words: &[u16],
+    events: &[OwnEvent],
+    name: String,
+) -> Result<(), String> {
+    let tested =
+        |e: &OwnEvent| quick_judge::judge(black_box(words), e.operation, e.target, &e.lent());
     let calls = Calls {
-        name: format!("{stacks}, table test each"),
+        name,
         function: Function::Judge,
-        all: &self::calls(Function::Judge, events),
+        all: &calls(Function::Judge, events),
     };
     row(bench, &calls, || sum(events, tested))
 }
