@@ -21,6 +21,24 @@ fn header_names() -> BTreeMap<String, usize> {
     named.collect()
 }
 
+/// The interface's number goes with what the judge takes: another number there is another interface.
+#[test]
+fn the_interface_is_the_one_with_namespaces() {
+    let header = file("include/dovetenon.h");
+    assert!(header.contains("#define DOVETENON_INTERFACE 2\n"));
+    for judge in [
+        "uint32_t dovetenon_judge(",
+        "uint32_t dovetenon_judge_known(",
+    ] {
+        let (_, after) = header.split_once(judge).unwrap();
+        let (parameters, _) = after.split_once(';').unwrap();
+        let numbers = parameters.matches("uint32_t ").count();
+        assert_eq!(numbers, 6, "{judge}");
+        assert!(parameters.contains("uint32_t ns,"), "{judge}");
+        assert!(parameters.contains("uint32_t allocation_ns)"), "{judge}");
+    }
+}
+
 #[test]
 fn every_name_of_the_header_is_the_plain_number() {
     let clash = Overlap::Clash {
