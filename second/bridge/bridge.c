@@ -10,10 +10,10 @@
      1 (lend) slot guard length bytes   none
      2 (show) slot                      length, bytes
      3 (call) call                      answer (64)
-     4 (time) times count call ..       nanoseconds (64), sum of answers (64)
+     4 (time) times count call ..       time (64), sum of answers (64)
 
-   The text has a line 'native' or 'emulated', the bridge's argument, and a line
-   for each function that the library has.
+   The text has a line 'native', 'emulated' or 'counted', the bridge's argument,
+   and a line for each function that the library has.
 
    What is lent stays in its slot until something else is lent there. Its first
    and last `guard` bytes are the asker's canaries; a function gets what lies
@@ -23,7 +23,9 @@
    its eight other parameters, both in the order of the header, 0 where it has
    fewer. A parameter of 64 bits is two of them, its low half first.
    Time runs through its calls so many times over, inside this process, so that
-   no pipe is measured.
+   no pipe is measured, and tells nanoseconds. A bridge that is 'counted' has a
+   second argument, the file in which an emulator counts its instructions
+   (../counter/counter.c), and tells these instead.
 
    Whatever is wrong with a request ends the bridge with status 2. */
 
@@ -43,13 +45,16 @@
 
 /* Of the C library, for x86-64 Linux. Its headers are not at hand everywhere. */
 struct timespec { long seconds, nanoseconds; };
-enum { MONOTONIC = 1 };
+enum { MONOTONIC = 1, TO_READ = 0 };
+int open(const char *path, int flags, ...);
 long read(int file, void *bytes, size_t length);
+long pread(int file, void *bytes, size_t length, long place);
 long write(int file, const void *bytes, size_t length);
 int clock_gettime(int clock, struct timespec *time);
 void *realloc(void *bytes, size_t length);
 void *memcpy(void *to, const void *from, size_t length);
 size_t strlen(const char *text);
+int strcmp(const char *one, const char *other);
 _Noreturn void _exit(int status);
 
 enum { WELL_FORMED, JUDGE, JUDGE_KNOWN, OVERLAP, PAGE, READ, FILL, NAME, LIST, FIND, FUNCTIONS };
@@ -253,9 +258,17 @@ static void answer_one(void)
     reply_long(answer(&one));
 }
 
+static int counter = -1; /* the file of the count, if there is one */
+
 static uint64_t now(void)
 {
     struct timespec time;
+    uint64_t count;
+    if (counter >= 0) {
+        if (pread(counter, &count, sizeof count, 0) != sizeof count)
+            fail("no count");
+        return count;
+    }
     if (clock_gettime(MONOTONIC, &time) != 0)
         fail("no clock");
     return (uint64_t)time.seconds * 1000000000 + (uint64_t)time.nanoseconds;
@@ -323,8 +336,11 @@ static void put(const unsigned char *from, size_t length)
 
 int main(int count, char **arguments)
 {
-    if (count != 2)
-        fail("one argument, native or emulated");
+    bool counted = count > 1 && strcmp(arguments[1], "counted") == 0;
+    if (count != (counted ? 3 : 2))
+        fail("one argument, native or emulated, or two, counted and a file");
+    if (counted && (counter = open(arguments[2], TO_READ)) < 0)
+        fail("no counter");
     uint32_t length;
     while (get(&length, sizeof length)) {
         reserve(&requests, length);

@@ -3,46 +3,53 @@
 
 use crate::dice::Dice;
 use second::policy::{DESCRIPTORS, DOMAINS, ELEMENTS, ENTRIES, MEMBERS};
-use std::sync::OnceLock;
+use std::sync::{LazyLock, OnceLock};
 
 /// "Text is at most 65,536 bytes."
 const LIMIT: usize = 65_536;
 
 /// A text, what it is called, and the number that the reader refuses it with,
 /// 0 if it takes it.
-#[derive(Clone, Debug)]
+#[derive(Debug)]
 pub struct Large {
     pub name: &'static str,
-    pub text: Vec<u8>,
+    pub text: LazyText,
     pub number: u16,
 }
 
-/// All of them, made once.
+/// A text that is made when it is first looked at, since that may take long.
+type LazyText = LazyLock<Vec<u8>, Box<dyn FnOnce() -> Vec<u8> + Send>>;
+
+/// All of them.
 pub fn texts() -> &'static [Large] {
     static ALL: OnceLock<Vec<Large>> = OnceLock::new();
     ALL.get_or_init(|| {
-        let all = [
-            ("patterns", patterned(&short_functions()), 0),
-            ("patterns with domains", with_domains(&short_domains()), 0),
-            ("long names", patterned(&long_functions()), 0),
-            ("ordinary", ordinary("\n"), 0),
-            ("ordinary, CR LF", ordinary("\r\n"), 0),
-            ("grants", grants(), 0),
-            ("short entries", short_entries(), 0),
-            ("every limit", every_limit(), 0),
-            ("items", items(), 6),
-            ("domains", domains(), 6),
-            ("long list", long_list(false), 8),
-            ("long list, one twice", long_list(true), 7),
-            ("one bucket", patterned(&one_bucket()), 0),
-            ("one hash", patterned(&one_hash()), 0),
-            ("one hash, short names", patterned(&one_hash_short()), 0),
-            ("one hash, alike at both ends", patterned(&alike()), 0),
-            ("one hash, domains", with_domains(&one_hash_domains()), 0),
+        let all: [(_, fn() -> String, _); 17] = [
+            ("patterns", || patterned(&short_functions()), 0),
+            (
+                "patterns with domains",
+                || with_domains(&short_domains()),
+                0,
+            ),
+            ("long names", || patterned(&long_functions()), 0),
+            ("ordinary", || ordinary("\n"), 0),
+            ("ordinary, CR LF", || ordinary("\r\n"), 0),
+            ("grants", grants, 0),
+            ("short entries", short_entries, 0),
+            ("every limit", every_limit, 0),
+            ("items", items, 6),
+            ("domains", domains, 6),
+            ("long list", || long_list(false), 8),
+            ("long list, one twice", || long_list(true), 7),
+            ("one bucket", || patterned(&one_bucket()), 0),
+            ("one hash", || patterned(&one_hash()), 0),
+            ("one hash, short names", || patterned(&one_hash_short()), 0),
+            ("one hash, alike at both ends", || patterned(&alike()), 0),
+            ("one hash, domains", || with_domains(&one_hash_domains()), 0),
         ];
-        let large = |(name, text, number): (_, String, _)| Large {
+        let large = |(name, make, number): (_, fn() -> String, _)| Large {
             name,
-            text: text.into_bytes(),
+            text: LazyLock::new(Box::new(move || make().into_bytes())),
             number,
         };
         all.map(large).into()

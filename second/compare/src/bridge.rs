@@ -17,11 +17,19 @@ pub fn command(asked: Option<&str>) -> Command {
     Command::new(asked.or(set).unwrap_or_else(|| USUAL.into()))
 }
 
+/// How the proved functions run.
+#[derive(Clone, Copy, Debug, PartialEq, Eq)]
+pub enum How {
+    Native,
+    Emulated,
+    /// Under an emulator that counts instructions, which stand for their times.
+    Counted,
+}
+
 pub struct Bridge {
     command: Command,
     process: Process,
-    /// Whether the proved functions run under an emulator.
-    pub emulated: bool,
+    pub how: How,
     functions: Vec<String>,
 }
 
@@ -35,15 +43,16 @@ impl Bridge {
         let replies = process.receive()?;
         let text = Replies::new(&replies).text()?;
         let mut lines = text.lines().map(String::from);
-        let emulated = match lines.next().as_deref() {
-            Some("native") => false,
-            Some("emulated") => true,
+        let how = match lines.next().as_deref() {
+            Some("native") => How::Native,
+            Some("emulated") => How::Emulated,
+            Some("counted") => How::Counted,
             _ => return Err(format!("this is no bridge; it says {text:?}")),
         };
         Ok(Bridge {
             command,
             process,
-            emulated,
+            how,
             functions: lines.collect(),
         })
     }

@@ -168,7 +168,7 @@ impl<'r> Replies<'r> {
         Ok(taken)
     }
 
-    /// The reply to `time`: nanoseconds, then the sum of the answers.
+    /// The reply to `time`: the time, then the sum of the answers.
     pub fn number(&mut self) -> Result<u64, String> {
         let low_first = |number, &byte| number << 8 | u64::from(byte);
         Ok(self.take(8)?.iter().rev().fold(0, low_first))

@@ -596,17 +596,21 @@ fn the_program_tells_a_difference_by_its_status() {
     assert_eq!(run("", &["--bridge", "no-such-bridge"]).0, Some(2));
 }
 
+/// What `bench` prints of a stand-in, or what it says is wrong.
+fn benched(stand_in: &str, arguments: &[&str]) -> Result<String, String> {
+    let mut command = Command::new(env!("CARGO_BIN_EXE_bench"));
+    command.env("STAND_IN", stand_in);
+    command.args(["--bridge", STAND_IN, "--events", "40", "--runs", "1"]);
+    let output = command.args(arguments).output().unwrap();
+    match output.status.success() {
+        true => Ok(String::from_utf8(output.stdout).unwrap()),
+        false => Err(String::from_utf8(output.stderr).unwrap()),
+    }
+}
+
 #[test]
 fn bench_times_a_stand_in_and_finds_other_answers() {
-    let run = |fault: &str| {
-        let mut command = Command::new(env!("CARGO_BIN_EXE_bench"));
-        command.env("STAND_IN", fault).args(["--bridge", STAND_IN]);
-        command.args(["--events", "40", "--runs", "1"]);
-        command.output().unwrap()
-    };
-    let timed = run("");
-    let printed = String::from_utf8(timed.stdout).unwrap();
-    assert!(timed.status.success(), "{printed}");
+    let printed = benched("", &[]).unwrap();
     let rows = [
         "read: patterns ",
         "fill: patterns with domains",
@@ -643,11 +647,62 @@ fn bench_times_a_stand_in_and_finds_other_answers() {
         "numbers are counted from 1",
     ];
     for fault in faults {
-        let wrong = run(fault);
-        assert!(!wrong.status.success());
-        let said = String::from_utf8(wrong.stderr).unwrap();
+        let said = benched(fault, &[]).unwrap_err();
         assert!(said.starts_with("answers differ"), "{said}");
     }
+}
+
+#[test]
+fn bench_gives_the_rows_asked_for_alone() {
+    let rows_of = |word: &str| {
+        let printed = benched("", &["--rows", word]).unwrap();
+        let (_, rows) = printed.split_once(" runs\n").unwrap();
+        let name = |row: &str| row.split("  ").next().unwrap().to_string();
+        rows.lines().map(name).collect::<Vec<String>>()
+    };
+    assert_eq!(rows_of("sixteen alls, 64"), ["sixteen alls, 64 frames"]);
+    assert_eq!(
+        rows_of("the table test"),
+        ["the table test", "domains: the table test"]
+    );
+    assert_eq!(rows_of("fill: grants"), ["fill: grants"]);
+    let grants = rows_of("grants");
+    assert_eq!(grants.len(), 7);
+    assert_eq!(grants[6], "both proved: grants");
+}
+
+/// A device that gives other bytes at each reading: a counter that moves.
+const MOVING: &str = "/dev/urandom";
+
+#[test]
+fn bench_gives_ratios_of_counts_and_none_of_an_emulators_times() {
+    let counted = ["--rows", "the report", "--counter", MOVING];
+    let printed = benched("counted", &counted).unwrap();
+    assert!(printed.contains("x86-64 instructions for one call"));
+    assert!(!printed.contains("microseconds") && !printed.contains("natively"));
+    assert_eq!(printed.matches(" times\n").count(), 3, "{printed}");
+    let printed = benched("emulated", &["--rows", "the report"]).unwrap();
+    assert!(printed.contains("UNDER AN EMULATOR"));
+    assert_eq!(printed.matches("(emulated)\n").count(), 2, "{printed}");
+    assert!(!printed.contains(" times\n"), "{printed}");
+}
+
+#[test]
+fn bench_refuses_counters_that_do_not_count() {
+    let file = |name: &str, bytes: &[u8]| {
+        let path = format!("{}/{name}", env!("CARGO_TARGET_TMPDIR"));
+        std::fs::write(&path, bytes).unwrap();
+        path
+    };
+    let said =
+        |stand_in: &str, counter: &str| benched(stand_in, &["--counter", counter]).unwrap_err();
+    assert!(said("counted", "no-such-counter").starts_with("no counter no-such-counter"));
+    assert!(said("counted", &file("short", &[1; 7])).starts_with("no count: "));
+    let still = said("counted", &file("still", &[1; 8]));
+    assert_eq!(still, "a counter stands still\n");
+    let one = "one program is counted, the other timed\n";
+    assert_eq!(said("", MOVING), one);
+    assert_eq!(benched("counted", &[]).unwrap_err(), one);
 }
 
 #[test]

@@ -111,8 +111,12 @@ fn what_is_here(fault: &str) -> String {
         "nothing is there" => false,
         _ => true,
     };
+    let how = match fault {
+        "emulated" | "counted" => fault,
+        _ => "native",
+    };
     let names = Function::ALL.into_iter().filter(there).map(Function::name);
-    names.fold("native\n".to_string(), |text, name| text + name + "\n")
+    names.fold(format!("{how}\n"), |text, name| text + name + "\n")
 }
 
 /// What is lent for one of a call's stretches.

@@ -6,9 +6,10 @@
 //! of 128 full patterns of one subject with no clash; then on tables whose
 //! patterns name domains too. Then both judge bursts of events under tables of
 //! other sorts. The proved one is timed inside the bridge, so that no pipe is
-//! measured.
+//! measured. Under emulators that count instructions these stand for times.
 #![forbid(unsafe_code)]
 
+mod gauge;
 mod texts;
 mod timing;
 
@@ -16,14 +17,17 @@ use cases::bursts::{Burst, BURSTS};
 use cases::events::OwnEvent;
 use cases::full::{self, FRAMES};
 use cases::Dice;
+use compare::bridge::How;
 use compare::wire::{Call, Function, Requests};
 use compare::{judge, Bridge};
+use gauge::Gauge;
 use second::{encode, quick_judge, Policy, Verdict, WITNESS_WORDS};
 use std::hint::black_box;
 use std::process::ExitCode;
 use timing::{exchange, row, Bench, Calls, LEAST_RUNS};
 
-const USAGE: &str = "usage: bench [--events N] [--runs N] [--seed N] [--bridge COMMAND]";
+const USAGE: &str = "usage: bench [--events N] [--runs N] [--seed N] [--rows WORD]
+             [--bridge COMMAND] [--counter FILE]";
 
 /// One event in so many is judged with a test of the table, which takes long.
 const TESTED_SHARE: usize = 100;
@@ -39,7 +43,9 @@ struct Asked {
     events: usize,
     runs: u64,
     seed: u64,
+    rows: String,
     bridge: Option<String>,
+    counter: Option<String>,
 }
 
 impl Asked {
@@ -48,7 +54,9 @@ impl Asked {
             events: 100_000,
             runs: 200,
             seed: 1,
+            rows: String::new(),
             bridge: None,
+            counter: None,
         };
         for pair in arguments.chunks(2) {
             let [name, value] = pair else { return None };
@@ -56,7 +64,9 @@ impl Asked {
                 "--events" => asked.events = value.parse().ok()?,
                 "--runs" => asked.runs = value.parse().ok()?,
                 "--seed" => asked.seed = value.parse().ok()?,
+                "--rows" => asked.rows = value.clone(),
                 "--bridge" => asked.bridge = Some(value.clone()),
+                "--counter" => asked.counter = Some(value.clone()),
                 _ => return None,
             }
         }
@@ -82,16 +92,21 @@ fn main() -> ExitCode {
 fn bench(asked: &Asked) -> Result<(), String> {
     let mut bench = Bench {
         bridge: Bridge::start(compare::bridge::command(asked.bridge.as_deref()))?,
+        gauge: Gauge::of(asked.counter.as_deref())?,
         most_runs: asked.runs,
+        rows: asked.rows.clone(),
     };
+    if bench.gauge.counts() != (bench.bridge.how == How::Counted) {
+        return Err("one program is counted, the other timed".to_string());
+    }
     say_how(&bench);
     texts::rows(&mut bench)?;
-    let mut dice = Dice::new(asked.seed);
+    // Each with dice of its own, so that no row depends on another.
     for table in TABLES {
-        full_table(&mut bench, &mut dice, table, asked.events)?;
+        full_table(&mut bench, Dice::new(asked.seed), table, asked.events)?;
     }
     for sort in BURSTS {
-        burst(&mut bench, &mut dice, sort, asked.events)?;
+        burst(&mut bench, Dice::new(asked.seed), sort, asked.events)?;
     }
     Ok(())
 }
@@ -100,15 +115,16 @@ fn bench(asked: &Asked) -> Result<(), String> {
 /// stacks and with long ones.
 fn full_table(
     bench: &mut Bench,
-    dice: &mut Dice,
+    mut dice: Dice,
     (begin, domains): (&str, usize),
     count: usize,
 ) -> Result<(), String> {
-    let words = lend_table(bench, &full::policy(dice, domains))?;
+    let words = lend_table(bench, &full::policy(&mut dice, domains))?;
     table_test(bench, &words, begin)?;
     report(bench, domains > 0, begin)?;
     for frames in FRAMES {
-        let events: Vec<OwnEvent> = (0..count).map(|_| frames.event(dice)).collect();
+        let mut dice = dice.clone();
+        let events: Vec<OwnEvent> = (0..count).map(|_| frames.event(&mut dice)).collect();
         let share = &events[..count.div_ceil(TESTED_SHARE)];
         let stacks = format!("{begin}{}", frames.name);
         judging(bench, &words, &events, format!("{stacks}, no table test"))?;
@@ -127,11 +143,15 @@ fn lend_table(bench: &mut Bench, policy: &Policy) -> Result<Vec<u16>, String> {
 }
 
 /// So many events of a burst with short stacks, and with long ones.
-fn burst(bench: &mut Bench, dice: &mut Dice, burst: Burst, count: usize) -> Result<(), String> {
-    let words = lend_table(bench, &burst.policy(dice))?;
+fn burst(bench: &mut Bench, mut dice: Dice, burst: Burst, count: usize) -> Result<(), String> {
+    let words = lend_table(bench, &burst.policy(&mut dice))?;
     for frames in FRAMES {
         let name = format!("{}, {}", burst.name(), frames.name);
-        let one = |_| burst.event(dice, &words, frames);
+        if !bench.wants(&name) {
+            continue; // to find its events takes long
+        }
+        let mut dice = dice.clone();
+        let one = |_| burst.event(&mut dice, &words, frames);
         let events: Option<Vec<OwnEvent>> = (0..count).map(one).collect();
         let events = events.ok_or(format!("too few events: {name}"))?;
         judging(bench, &words, &events, name)?;
@@ -140,19 +160,28 @@ fn burst(bench: &mut Bench, dice: &mut Dice, burst: Burst, count: usize) -> Resu
 }
 
 fn say_how(bench: &Bench) {
-    let proved = match bench.bridge.emulated {
-        true => "UNDER AN EMULATOR: its figures say nothing about speed",
+    const COUNTED: &str = "under an emulator that counts its instructions";
+    let proved = match bench.bridge.how {
+        How::Native => "natively",
+        How::Emulated => "UNDER AN EMULATOR: its figures say nothing about speed",
+        How::Counted => COUNTED,
+    };
+    let plain = match bench.gauge.counts() {
+        true => COUNTED,
         false => "natively",
     };
-    let plain = match cfg!(debug_assertions) {
-        true => "natively, SLOWED BY CHECKS: build it with --profile speed",
-        false => "natively",
+    let checks = match cfg!(debug_assertions) {
+        true => ", SLOWED BY CHECKS: build it with --profile speed",
+        false => "",
     };
     println!("machine: {}", std::env::consts::ARCH);
-    println!("the plain program runs {plain}");
+    println!("the plain program runs {plain}{checks}");
     println!("the proved program runs {proved}");
     let most = bench.most_runs;
-    println!("microseconds for one call, the smallest of {LEAST_RUNS} to {most} runs");
+    match bench.gauge.counts() {
+        true => println!("x86-64 instructions for one call; these are counts and no times"),
+        false => println!("microseconds for one call, the smallest of {LEAST_RUNS} to {most} runs"),
+    }
 }
 
 fn table_test(bench: &mut Bench, words: &[u16], begin: &str) -> Result<(), String> {

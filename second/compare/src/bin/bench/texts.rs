@@ -21,68 +21,62 @@ const LIST: u32 = 4;
 const LISTED: u32 = 5;
 const NAME: u32 = 6;
 
-/// The figures of one text.
-struct Figures {
-    read: Figure,
-    page: Figure,
-    fill: Figure,
-    name: Figure,
-    list: Figure,
-    find: Figure,
-}
-
-impl Figures {
-    fn least(self, other: Figures) -> Figures {
-        Figures {
-            read: self.read.least(other.read),
-            page: self.page.least(other.page),
-            fill: self.fill.least(other.fill),
-            name: self.name.least(other.name),
-            list: self.list.least(other.list),
-            find: self.find.least(other.find),
-        }
-    }
-}
+/// What there is a row of for each text, and what times it.
+type Row = (Function, fn(&mut Bench, &Large) -> Result<Figure, String>);
+const ROWS: [Row; 6] = [
+    (Function::Read, read),
+    (Function::Page, page),
+    (Function::Fill, fill),
+    (Function::Name, name),
+    (Function::List, list),
+    (Function::Find, find),
+];
 
 pub fn rows(bench: &mut Bench) -> Result<(), String> {
     let mut least = sweep(bench)?;
-    for _ in 1..SWEEPS {
+    let sweeps = if bench.gauge.counts() { 1 } else { SWEEPS };
+    for _ in 1..sweeps {
         let pairs = least.into_iter().zip(sweep(bench)?);
         least = pairs.map(|(one, other)| one.least(other)).collect();
     }
-    let bridge = &bench.bridge;
-    for (Large { name, .. }, figures) in large::texts().iter().zip(&least) {
-        figures.read.print(&format!("read: {name}"), bridge);
-        figures.page.print(&format!("page: {name}"), bridge);
-        figures.fill.print(&format!("fill: {name}"), bridge);
-        figures.name.print(&format!("name: {name}"), bridge);
-        figures.list.print(&format!("list: {name}"), bridge);
-        figures.find.print(&format!("find: {name}"), bridge);
+    for figure in &least {
+        figure.print(bench);
     }
-    for (Large { name, .. }, figures) in large::texts().iter().zip(&least) {
-        let pair = [("read", &figures.read), ("fill", &figures.fill)];
-        Figure::print_proved(pair, &format!("both proved: {name}"), bridge);
+    for large in large::texts() {
+        let of = |function| {
+            let name = row_name(function, large);
+            least.iter().find(|figure| figure.name == name)
+        };
+        if let (Some(read), Some(fill)) = (of(Function::Read), of(Function::Fill)) {
+            let name = format!("both proved: {}", large.name);
+            Figure::print_proved([("read", read), ("fill", fill)], &name, bench);
+        }
     }
     Ok(())
 }
 
-fn sweep(bench: &mut Bench) -> Result<Vec<Figures>, String> {
+fn row_name(function: Function, large: &Large) -> String {
+    format!("{}: {}", function.name(), large.name)
+}
+
+/// The figures of all rows that are asked for.
+fn sweep(bench: &mut Bench) -> Result<Vec<Figure>, String> {
     let mut figures = Vec::new();
     for large in large::texts() {
+        let wanted = |row: &&Row| bench.wants(&row_name(row.0, large));
+        let asked: Vec<&Row> = ROWS.iter().filter(wanted).collect();
+        if asked.is_empty() {
+            continue; // some texts take long to make
+        }
         let mut lent = Requests::default();
         lent.lend(TEXT, &large.text);
         lent.lend(TABLE, &[1u16; TABLE_WORDS]);
         lent.lend(OUTPUT, &[1u8; TEXT_LIMIT]);
         lent.lend(LIST, &[1u32; LIST_WORDS]);
         exchange(&mut bench.bridge, lent)?;
-        figures.push(Figures {
-            read: read(bench, large)?,
-            page: page(bench, large)?,
-            fill: fill(bench, large)?,
-            name: name(bench, large)?,
-            list: list(bench, large)?,
-            find: find(bench, large)?,
-        });
+        for (_, row) in asked {
+            figures.push(row(bench, large)?);
+        }
     }
     Ok(figures)
 }
@@ -122,7 +116,7 @@ fn name(bench: &mut Bench, large: &Large) -> Result<Figure, String> {
         domain: 0,
     };
     let calls = Calls {
-        name: large.name.to_string(),
+        name: row_name(Function::Name, large),
         function: Function::Name,
         all: &[compare::name::call(question, TEXT)],
     };
@@ -153,7 +147,7 @@ fn find(bench: &mut Bench, large: &Large) -> Result<Figure, String> {
     lent.lend(NAME, name);
     exchange(&mut bench.bridge, lent)?;
     let calls = Calls {
-        name: large.name.to_string(),
+        name: row_name(Function::Find, large),
         function: Function::Find,
         all: &[compare::find::call(kind, [TEXT, LISTED, NAME])],
     };
@@ -171,7 +165,7 @@ fn one_call(
     plain: impl FnMut() -> u64,
 ) -> Result<Figure, String> {
     let calls = Calls {
-        name: large.name.to_string(),
+        name: row_name(function, large),
         function,
         all: &[Call::new(function, slots, &[])],
     };

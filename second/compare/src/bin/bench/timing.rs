@@ -1,8 +1,10 @@
-//! The same calls plain and proved, timed in turn.
+//! The same calls plain and proved, timed in turn. Where a counter is the gauge,
+//! a time is a number of instructions.
 
+use crate::gauge::Gauge;
+use compare::bridge::How;
 use compare::wire::{Call, Function, Replies, Requests};
 use compare::Bridge;
-use std::time::Instant;
 
 /// A figure is the smallest of so many runs at least, more where they take
 /// under a second.
@@ -12,10 +14,22 @@ pub const LEAST_RUNS: u64 = 5;
 const RUN: u64 = 250_000;
 const SECOND: u64 = 1_000_000_000;
 
-/// What is timed over, and how often at most.
+/// Counts hardly vary; but what is done only once is done in the first run.
+const COUNTED_RUNS: u64 = 2;
+
+/// What is timed over and by what, how often at most, and what the names of the
+/// rows asked for have in them.
 pub struct Bench {
     pub bridge: Bridge,
+    pub gauge: Gauge,
     pub most_runs: u64,
+    pub rows: String,
+}
+
+impl Bench {
+    pub fn wants(&self, name: &str) -> bool {
+        name.contains(&self.rows)
+    }
 }
 
 /// Calls of one function.
@@ -25,45 +39,50 @@ pub struct Calls<'c> {
     pub all: &'c [Call],
 }
 
-/// Microseconds for one call; none where the function is not there.
+/// The times of one call, in microseconds or instructions; none where the
+/// function is not there.
 pub struct Figure {
+    pub name: String,
     plain: f64,
     proved: Option<f64>,
 }
 
 impl Figure {
-    /// The smaller times of two figures.
+    /// The smaller times of two figures of one row.
     pub fn least(self, other: Figure) -> Figure {
         let proved = self.proved.zip(other.proved);
         Figure {
+            name: self.name,
             plain: self.plain.min(other.plain),
             proved: proved.map(|(one, other)| one.min(other)),
         }
     }
 
-    pub fn print(&self, name: &str, bridge: &Bridge) {
-        print_pair(name, ("plain", self.plain), ("proved", self.proved), bridge);
+    pub fn print(&self, bench: &Bench) {
+        let (plain, proved) = (("plain", self.plain), ("proved", self.proved));
+        print_pair(&self.name, plain, proved, bench);
     }
 
     /// The proved times of two functions.
-    pub fn print_proved(pair: [(&str, &Figure); 2], name: &str, bridge: &Bridge) {
+    pub fn print_proved(pair: [(&str, &Figure); 2], name: &str, bench: &Bench) {
         let [(one, first), (other, second)] = pair;
         if let Some(time) = first.proved {
-            print_pair(name, (one, time), (other, second.proved), bridge);
+            print_pair(name, (one, time), (other, second.proved), bench);
         }
     }
 }
 
 /// Two times, each with what took it, and how many times the one the other is,
-/// unless an emulator ran.
-fn print_pair(name: &str, one: (&str, f64), other: (&str, Option<f64>), bridge: &Bridge) {
+/// unless an emulator was timed.
+fn print_pair(name: &str, one: (&str, f64), other: (&str, Option<f64>), bench: &Bench) {
     let (one, time) = one;
+    let show = |time| bench.gauge.show(time);
     let told = match other.1 {
         None => "not there yet".to_string(),
-        Some(other) if bridge.emulated => format!("{other:>10.2} (emulated)"),
-        Some(other) => format!("{other:>10.2}   {:.2} times", other / time),
+        Some(other) if bench.bridge.how == How::Emulated => format!("{} (emulated)", show(other)),
+        Some(other) => format!("{}   {:.2} times", show(other), other / time),
     };
-    println!("{name:<34} {one} {time:>10.2}   {} {told}", other.0);
+    println!("{name:<34} {one} {}   {} {told}", show(time), other.0);
 }
 
 /// Times these calls; `plain` makes all of them in plain Rust and gives the sum
@@ -73,24 +92,22 @@ pub fn figure(
     calls: &Calls<'_>,
     mut plain: impl FnMut() -> u64,
 ) -> Result<Figure, String> {
-    let (bridge, most) = (&mut bench.bridge, bench.most_runs);
-    let (once, sum) = timed(1, &mut plain);
-    let times = RUN.div_ceil(once.max(1));
-    let runs = (SECOND / (times * once.max(1))).max(LEAST_RUNS).min(most);
-    let each = |time: u64| time as f64 / 1_000.0 / (times * calls.all.len() as u64) as f64;
+    let (once, sum) = timed(&bench.gauge, 1, &mut plain)?;
+    let (times, runs) = how_often(bench, once.max(1));
+    let each = |time| (bench.gauge).each(time, times * calls.all.len() as u64);
     let mut least: Option<Figure> = None;
     for _ in 0..runs {
-        let time = timed(times, &mut plain).0;
         let mut run = Figure {
-            plain: each(time),
+            name: calls.name.clone(),
+            plain: each(timed(&bench.gauge, times, &mut plain)?.0)?,
             proved: None,
         };
-        if bridge.has(calls.function) {
-            let (time, proved) = proved(bridge, calls.all, times)?;
+        if bench.bridge.has(calls.function) {
+            let (time, proved) = proved(&mut bench.bridge, calls.all, times)?;
             if proved != sum.wrapping_mul(times) {
                 return Err(format!("answers differ: {}", calls.name));
             }
-            run.proved = Some(each(time));
+            run.proved = Some(each(time)?);
         }
         least = Some(match least {
             None => run,
@@ -100,20 +117,33 @@ pub fn figure(
     least.ok_or("no run".to_string())
 }
 
-/// Times these calls and prints the figure.
+/// How many times a run goes over its calls, which take so long once, and how
+/// many runs there are.
+fn how_often(bench: &Bench, once: u64) -> (u64, u64) {
+    if bench.gauge.counts() {
+        return (1, COUNTED_RUNS);
+    }
+    let times = RUN.div_ceil(once);
+    let runs = (SECOND / (times * once)).max(LEAST_RUNS);
+    (times, runs.min(bench.most_runs))
+}
+
+/// Times these calls and prints the figure, if the row is asked for.
 pub fn row(bench: &mut Bench, calls: &Calls<'_>, plain: impl FnMut() -> u64) -> Result<(), String> {
-    figure(bench, calls, plain)?.print(&calls.name, &bench.bridge);
+    if bench.wants(&calls.name) {
+        figure(bench, calls, plain)?.print(bench);
+    }
     Ok(())
 }
 
-/// Nanoseconds for so many times over, and the sum of one time.
-fn timed(times: u64, run: &mut impl FnMut() -> u64) -> (u64, u64) {
+/// Nanoseconds or instructions for so many times over, and the sum of one time.
+fn timed(gauge: &Gauge, times: u64, run: &mut impl FnMut() -> u64) -> Result<(u64, u64), String> {
     let mut sum = 0;
-    let start = Instant::now();
+    let start = gauge.now()?;
     for _ in 0..times {
         sum = run();
     }
-    (start.elapsed().as_nanos() as u64, sum)
+    Ok((gauge.now()?.wrapping_sub(start), sum))
 }
 
 /// The same inside the bridge; the sum is of all times.
