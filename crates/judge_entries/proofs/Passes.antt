@@ -1,6 +1,6 @@
 -- The two passes: while no entry matches, entries are dropped; from one that matches on, the first that grants as well is the answer.
 use mathlib.Core.Path.{_≡_, refl, sym, _∙_}
-use mathlib.Core.Bool.{Bool, true, false, cond, _&&_, and-false}
+use mathlib.Core.Bool.{Bool, true, false, cond, not, _&&_, and-false}
 use mathlib.Core.List.{List, map}
 use Prim.Native.Nat.{ℕ, zero, suc, _+_, _-_, _<_, _≤_}
 use native.Mathlib.Omega.{arith}
@@ -13,12 +13,15 @@ use Rattle.paper.specs.declared.Access.the-variants.{Read, Write, Call, Return}
 use Rattle.paper.specs.declared.Verdict.{Verdict}
 use Rattle.paper.specs.declared.Verdict.the-variants.{Granted, Violation}
 use Rattle.paper.specs.Policy.{Entry, Policy}
-use Rattle.paper.specs.Table.{readsAt, writesAt, entryAt, word, subjectDomainCount, entryCount, readCount, writeCount, grantIn, descriptorIn, entryIn, policyIn, firstDescriptor}
+use Rattle.paper.specs.Table.{entryAt, word, subjectDomainCount, entryCount, readCount, writeCount, grantIn, descriptorIn, entryIn, policyIn, firstDescriptor}
 use Rattle.paper.specs.Match.{Moment, entryMatches, grants, descriptorGrants, someDescriptorGrants, contextFitsObject, fitsAllocated, allocatedSortsFit}
 use Rattle.paper.specs.Verdict.{isCode, targetDomain, entryGrants, byEntries}
+use Rattle.laws.proofs.Tests.{both-left, both-right}
+use Rattle.laws.proofs.Chains.{tested-false, tested-true}
 use Rattle.laws.proofs.Counting.{counted-step, counted-end}
 use Rattle.judge_match.specs.declared.Event.{Event}
-use Rattle.judge_match.specs.Moments.{momentOf, binding, allocationOf, Placed}
+use Rattle.judge_match.specs.Moments.{momentOf, binding, allocationOf, Placed, hasSubject}
+use Rattle.judge_match.proofs.Laws.{other-subject}
 use Rattle.judge_entries.specs.Passes.{isWrite, codeGrantAt, firstMatch, firstOfAll, byAllEntries, byEntriesFrom, GrantedFrom}
 
 -- ---- the first pass
@@ -98,6 +101,20 @@ module _ (ws : List ℕ) (m : Moment) where
         let e : matchLeft k ≡ 0 = rw (counted-end k (entryCount ws) k (rw counted at h)) in
         omega arith
 
+-- an entry of another subject does not match
+pub not-its-subject :
+    (ws s : List ℕ) (event : Event) (k n : ℕ) (of : Bool) → n ≡ entryCount ws → k + matchLeft ws (momentOf s (event .ids)) k ≡ firstOfAll ws (momentOf s (event .ids)) → k < n
+    → Placed ws s event → of ≡ hasSubject ws k event → of ≡ false → k + 1 + matchLeft ws (momentOf s (event .ids)) (k + 1) ≡ firstOfAll ws (momentOf s (event .ids))
+not-its-subject ws s event k n of counted so-far below placed told h =
+    matches-later ws (momentOf s (event .ids)) k n counted so-far false below (other-subject ws s event placed k (sym told ∙ h)) refl
+
+-- what was asked of an entry says that it has the subject
+pub has-it : (subject of : Bool) → of ≡ subject → of ≡ true → subject ≡ true
+has-it subject of told h = sym told ∙ h
+
+pub granted-has-it : (subject test r : Bool) → r ≡ (subject && test) → r ≡ true → subject ≡ true
+granted-has-it subject test r told h = both-left subject test (sym told ∙ h)
+
 -- ---- the second pass
 
 -- of the moment that an entry looks at for a grant, only uid, gid and namespace count
@@ -114,6 +131,14 @@ ids-count p e (Return f) s event allocation = refl
 still-matched : (b : Bool) → cond b true true ≡ true
 still-matched true = refl
 still-matched false = refl
+
+-- the subject is asked first
+module _ (of test subject : Bool) (told : of ≡ subject) where
+  pub another-subject : not of ≡ true → false ≡ (subject && test)
+  another-subject h = rw (tested-false subject of told h)
+
+  pub same-subject : (r : Bool) → not of ≡ false → r ≡ test → r ≡ (subject && test)
+  same-subject r h e = rw (tested-true subject of told h) e
 
 module _ (ws s : List ℕ) (event : Event) where
   abbrev pub left : Moment → ℕ → Verdict
@@ -139,12 +164,17 @@ module _ (ws s : List ℕ) (event : Event) where
       entry-decides : left allocation from ≡ cond (matchesAt k && grantsAt allocation k) (Granted k) (left allocation (k + 1))
       entry-decides = sym same ∙ grant-step allocation k (rw counted at below)
 
-      grants-here : (r b : Bool) → r ≡ grantsAt allocation k → r ≡ true → b ≡ matchesAt k → b ≡ true → GrantedFrom ws s event allocation from k
+      grants-here : (r b : Bool) → r ≡ (hasSubject ws k event && grantsAt allocation k) → r ≡ true → b ≡ matchesAt k → b ≡ true → GrantedFrom ws s event allocation from k
       grants-here r b e h f q =
-          record { few = omega arith; decides = rw (entry-decides, ← f, ← e, q, h, ne-eqb k (entryCount ws) (λ (z : k ≡ entryCount ws). omega arith)) }
+          let g : grantsAt allocation k ≡ true = both-right (hasSubject ws k event) (grantsAt allocation k) (sym e ∙ h) in
+          record { few = omega arith; decides = rw (entry-decides, ← f, q, g, ne-eqb k (entryCount ws) (λ (z : k ≡ entryCount ws). omega arith)) }
 
-      grants-not : (r : Bool) → r ≡ grantsAt allocation k → r ≡ false → left allocation (k + 1) ≡ left allocation from
-      grants-not r e h = rw (entry-decides, ← e, h, and-false)
+      grants-not : Placed ws s event → (r : Bool) → r ≡ (hasSubject ws k event && grantsAt allocation k) → r ≡ false → left allocation (k + 1) ≡ left allocation from
+      grants-not placed r e h = go (hasSubject ws k event) refl (sym e ∙ h)
+        where
+          go : (of : Bool) → hasSubject ws k event ≡ of → (of && grantsAt allocation k) ≡ false → left allocation (k + 1) ≡ left allocation from
+          go true t g = rw (entry-decides, g, and-false)
+          go false t g = rw (entry-decides, ← other-subject ws s event placed k t)
 
       matches-not : (b : Bool) → b ≡ matchesAt k → b ≡ false → left allocation (k + 1) ≡ left allocation from
       matches-not b f q = rw (entry-decides, ← f, q)
@@ -160,6 +190,11 @@ module _ (ws s : List ℕ) (event : Event) where
   code-granted (Call f) m allocation k h = refl
   code-granted (Return f) m allocation k h = refl
 
+  pub grant-decides :
+      (k at g domains : ℕ) (of r : Bool) → of ≡ hasSubject ws k event → not of ≡ false → at ≡ entryAt k → r ≡ grants (grantIn ws (at + g) domains) (event .target)
+      → r ≡ (hasSubject ws k event && grants (grantIn ws (entryAt k + g) domains) (event .target))
+  grant-decides k at g domains of r told h stands e = same-subject of _ (hasSubject ws k event) told r h (rw stands at e)
+
   abbrev pub CodeLeft : ℕ → ℕ → Type 0
   CodeLeft from k = (allocation : Moment) → left allocation k ≡ left allocation from
 
@@ -170,14 +205,15 @@ module _ (ws s : List ℕ) (event : Event) where
     pub code-not-matched : (b : Bool) → k < n → b ≡ matchesAt k → b ≡ false → CodeLeft from (k + 1)
     code-not-matched b below e h allocation = matches-not from k n counted allocation (same allocation) below b e h
 
-    module _ (at g domains : ℕ) (r : Bool) (below : k < n) (code : isCode (event .access) ≡ true) (placed : Placed ws s event) (stands : at ≡ entryAt k)
-        (within : g ≡ codeGrantAt (event .access)) (among : domains ≡ subjectDomainCount ws) (told : r ≡ grants (grantIn ws (at + g) domains) (event .target)) where
-      code-told : (allocation : Moment) → r ≡ grantsAt allocation k
+    module _ (g domains : ℕ) (r : Bool) (below : k < n) (code : isCode (event .access) ≡ true) (placed : Placed ws s event)
+        (within : g ≡ codeGrantAt (event .access)) (among : domains ≡ subjectDomainCount ws)
+        (told : r ≡ (hasSubject ws k event && grants (grantIn ws (entryAt k + g) domains) (event .target))) where
+      code-told : (allocation : Moment) → r ≡ (hasSubject ws k event && grantsAt allocation k)
       code-told allocation =
-          rw (code-granted (event .access) (binding event) allocation k code, ← stands, ← within, ← among, ← placed .target) told
+          rw (code-granted (event .access) (binding event) allocation k code, ← within, ← among, ← placed .target) told
 
       pub code-not-granted : r ≡ false → CodeLeft from (k + 1)
-      code-not-granted h allocation = grants-not from k n counted allocation (same allocation) below r (code-told allocation) h
+      code-not-granted h allocation = grants-not from k n counted allocation (same allocation) below placed r (code-told allocation) h
 
       pub code-allowed : (b : Bool) → r ≡ true → b ≡ matchesAt k → b ≡ true → (allocation : Moment) → GrantedFrom ws s event allocation from k
       code-allowed b h e q allocation = grants-here from k n counted allocation (same allocation) below r b (code-told allocation) h e q
@@ -196,26 +232,33 @@ module _ (ws s : List ℕ) (event : Event) where
   data-granted (Call f) m allocation k h = cc
   data-granted (Return f) m allocation k h = cc
 
-  pub descriptors-grant :
-      (al : List ℕ) (k at first reads writes before these : ℕ) (w r : Bool) → isCode (event .access) ≡ false → event .target ≡ targetDomain (policyIn ws) (event .access) → at ≡ entryAt k
-      → first ≡ firstDescriptor ws k → reads ≡ word ws (at + readsAt) → writes ≡ word ws (at + writesAt) → w ≡ isWrite (event .access) → before ≡ cond w reads 0 → these ≡ cond w writes reads
-      → r ≡ someDescriptorGrants (policyIn ws) (map (descriptorIn ws) (countUp (first + before) these)) (event .target) (binding event) (allocationOf al event) → r ≡ grantsAt (allocationOf al event) k
-  descriptors-grant al k at first reads writes before these w r d t e f p q g x y told =
-      rw (data-granted (event .access) (binding event) (allocationOf al event) k d, ← e, ← f, ← p, ← q, ← g, ← x, ← y, ← t) told
+  -- a count that was read in an entry
+  pub count-of-entry : (k at place r : ℕ) → at ≡ entryAt k → r ≡ word ws (at + place) → r ≡ word ws (entryAt k + place)
+  count-of-entry k at place r stands e = rw stands at e
+
+  module _ (al : List ℕ) (k : ℕ) (of : Bool) (told : of ≡ hasSubject ws k event) where
+    pub descriptors-grant :
+        (first reads writes before these : ℕ) (w r : Bool) → not of ≡ false → isCode (event .access) ≡ false → event .target ≡ targetDomain (policyIn ws) (event .access)
+        → first ≡ firstDescriptor ws k → reads ≡ readCount ws k → writes ≡ writeCount ws k → w ≡ isWrite (event .access) → before ≡ cond w reads 0 → these ≡ cond w writes reads
+        → r ≡ someDescriptorGrants (policyIn ws) (map (descriptorIn ws) (countUp (first + before) these)) (event .target) (binding event) (allocationOf al event)
+        → r ≡ (hasSubject ws k event && grantsAt (allocationOf al event) k)
+    descriptors-grant first reads writes before these w r h d t f p q g x y e =
+        same-subject of (grantsAt (allocationOf al event) k) (hasSubject ws k event) told r h (rw (data-granted (event .access) (binding event) (allocationOf al event) k d, ← f, ← p, ← q, ← g, ← x, ← y, ← t) e)
 
   module _ (al : List ℕ) (from k n : ℕ) (counted : n ≡ entryCount ws) (same : left (allocationOf al event) k ≡ left (allocationOf al event) from) where
     pub data-ends : n ≤ k → GrantedFrom ws s event (allocationOf al event) from n
     data-ends h = none-grants from k n counted (allocationOf al event) same h
 
     module _ (below : k < n) where
-      pub data-not-granted : (r : Bool) → r ≡ grantsAt (allocationOf al event) k → r ≡ false → left (allocationOf al event) (k + 1) ≡ left (allocationOf al event) from
-      data-not-granted r e h = grants-not from k n counted (allocationOf al event) same below r e h
+      pub data-not-granted :
+          Placed ws s event → (r : Bool) → r ≡ (hasSubject ws k event && grantsAt (allocationOf al event) k) → r ≡ false → left (allocationOf al event) (k + 1) ≡ left (allocationOf al event) from
+      data-not-granted placed r e h = grants-not from k n counted (allocationOf al event) same below placed r e h
 
       pub data-not-matched : (b : Bool) → b ≡ matchesAt k → b ≡ false → left (allocationOf al event) (k + 1) ≡ left (allocationOf al event) from
       data-not-matched b e h = matches-not from k n counted (allocationOf al event) same below b e h
 
       pub data-allowed :
-          (r b : Bool) → r ≡ grantsAt (allocationOf al event) k → r ≡ true → b ≡ matchesAt k → b ≡ true → GrantedFrom ws s event (allocationOf al event) from k
+          (r b : Bool) → r ≡ (hasSubject ws k event && grantsAt (allocationOf al event) k) → r ≡ true → b ≡ matchesAt k → b ≡ true → GrantedFrom ws s event (allocationOf al event) from k
       data-allowed r b e h f q = grants-here from k n counted (allocationOf al event) same below r b e h f q
 
 -- ---- both

@@ -1,20 +1,21 @@
 // The verdict of the entries, in two passes: the first entry that matches, and from it on the first that grants as well.
 use judge_match::Event;
-use judge_match::entry_matches;
 use judge_match::grant_holds;
+use judge_match::has_subject;
+use judge_match::moment_fits;
 use judge_match::some_descriptor_grants;
 use paper::Access;
 use paper::Verdict;
 use paper::violation;
 use table::layout;
 ghost use mathlib.Core.Path.{_≡_};
-ghost use mathlib.Core.Bool.{cond, true, false};
+ghost use mathlib.Core.Bool.{cond, true, false, _&&_};
 ghost use Prim.Native.Nat.{_+_, _*_, _≤_};
-ghost use Rattle.paper.specs.Table.{returnsAt, entryCount, policyIn, entryIn, firstDescriptor};
-ghost use Rattle.paper.specs.Match.{Moment};
+ghost use Rattle.paper.specs.Table.{returnsAt, entryAt, entryCount, readCount, writeCount, functionDomainsIn, policyIn, entryIn, grantIn, firstDescriptor};
+ghost use Rattle.paper.specs.Match.{Moment, grants};
 ghost use Rattle.paper.specs.Verdict.{isCode, targetDomain, entryGrants};
 ghost use Rattle.table.specs.Reach.{wordValues};
-ghost use Rattle.judge_match.specs.Moments.{momentOf, binding, allocationOf, Placed};
+ghost use Rattle.judge_match.specs.Moments.{momentOf, binding, allocationOf, Placed, hasSubject};
 ghost use Rattle.judge_entries.specs.Passes.{isWrite, codeGrantAt, firstOfAll, byAllEntries, GrantedFrom};
 
 pub fn is_code(access: Access) -> bool
@@ -29,15 +30,18 @@ pub fn is_code(access: Access) -> bool
 }
 
 // The lowest entry that matches, or how many there are where none does.
-fn first_match(t: &[u16], event: Event, stack: &[u16]) -> usize
+fn first_match(t: &[u16], functions: &[u16], event: Event, stack: &[u16]) -> usize
+    requires { ⌜ now functions ≡ functionDomainsIn (now t) ⌝ }
     requires { ⌜ Placed (now t) (now stack) event ⌝ }
     ensures { λ r. ⌜ (r ≡ firstOfAll (now (t .entry)) (momentOf (now (stack .entry)) (event .ids))) × (r ≤ entryCount (now (t .entry))) ⌝ }
 {
     let entries = table::count(t, layout::ENTRY_COUNT_AT);
     let mut k: usize = 0;
     while k < entries {
-        if entry_matches(t, k, event, stack) {
-            return k;
+        if has_subject(t, k, event) {
+            if moment_fits(t, functions, k, event, stack) {
+                return k;
+            }
         }
         k += 1;
     }
@@ -56,9 +60,26 @@ fn code_grant_at(access: Access) -> usize
     }
 }
 
+// Entry k has the subject and grants the call or return by its grant at a place: these two mostly say no.
+fn code_granted(t: &[u16], k: usize, grant: usize, domains: usize, event: Event) -> bool
+    requires { ⌜ (k ≤ wordValues) × (grant ≤ returnsAt) ⌝ }
+    ensures { λ r. ⌜ r ≡ (hasSubject (now (t .entry)) k event && grants (grantIn (now (t .entry)) (entryAt k + grant) domains) (event .target)) ⌝ }
+{
+    if !has_subject(t, k, event) {
+        return false;
+    }
+    grant_holds(t, layout::entry_at(k) + grant, domains, event.target)
+}
+
 // The lowest entry from one on that matches and grants the call or return, or how many there are where none does.
-// The grant is asked first: it mostly says no.
-fn first_granting_code(t: &[u16], from: usize, event: Event, stack: &[u16]) -> usize
+fn first_granting_code(
+    t: &[u16],
+    functions: &[u16],
+    from: usize,
+    event: Event,
+    stack: &[u16],
+) -> usize
+    requires { ⌜ now functions ≡ functionDomainsIn (now t) ⌝ }
     requires { ⌜ Placed (now t) (now stack) event ⌝ }
     requires { ⌜ isCode (event .access) ≡ true ⌝ }
     ensures { λ r. ⌜ ((allocation : Moment) → GrantedFrom (now (t .entry)) (now (stack .entry)) event allocation from r) ⌝ }
@@ -69,8 +90,8 @@ fn first_granting_code(t: &[u16], from: usize, event: Event, stack: &[u16]) -> u
     let grant_at = code_grant_at(access);
     let mut k = from;
     while k < entries {
-        if grant_holds(t, layout::entry_at(k) + grant_at, domains, event.target) {
-            if entry_matches(t, k, event, stack) {
+        if code_granted(t, k, grant_at, domains, event) {
+            if moment_fits(t, functions, k, event, stack) {
                 return k;
             }
         }
@@ -104,15 +125,25 @@ fn asked(write: bool, reads: usize, writes: usize) -> usize
     if write { writes } else { reads }
 }
 
-// Entry k, whose descriptors begin at the first, grants the read or write.
-fn data_granted(t: &[u16], k: usize, first: usize, event: Event, allocation: &[u16]) -> bool
+// Entry k, whose descriptors begin at the first, has the subject and grants the read or write.
+fn data_granted(
+    t: &[u16],
+    k: usize,
+    first: usize,
+    reads: usize,
+    writes: usize,
+    event: Event,
+    allocation: &[u16],
+) -> bool
     requires { ⌜ (isCode (event .access) ≡ false) × (event .target ≡ targetDomain (policyIn (now t)) (event .access)) ⌝ }
     requires { ⌜ (k ≤ wordValues) × (first ≡ firstDescriptor (now t) k) × (first ≤ 2 * wordValues * k) ⌝ }
-    ensures { λ r. ⌜ r ≡ entryGrants (policyIn (now (t .entry))) (entryIn (now (t .entry)) k) (event .access) (binding event) (allocationOf (now (allocation .entry)) event) ⌝ }
+    requires { ⌜ (reads ≡ readCount (now t) k) × (writes ≡ writeCount (now t) k) × (reads + writes ≤ 2 * wordValues) ⌝ }
+    ensures { λ r. ⌜ r ≡ (hasSubject (now (t .entry)) k event
+        && entryGrants (policyIn (now (t .entry))) (entryIn (now (t .entry)) k) (event .access) (binding event) (allocationOf (now (allocation .entry)) event)) ⌝ }
 {
-    let at = layout::entry_at(k);
-    let reads = table::count(t, at + layout::READS_AT);
-    let writes = table::count(t, at + layout::WRITES_AT);
+    if !has_subject(t, k, event) {
+        return false;
+    }
     let access = event.access;
     let write = is_write(access);
     let start = first + skipped(write, reads);
@@ -122,11 +153,13 @@ fn data_granted(t: &[u16], k: usize, first: usize, event: Event, allocation: &[u
 // The same for a read or a write.
 fn first_granting_data(
     t: &[u16],
+    functions: &[u16],
     from: usize,
     event: Event,
     stack: &[u16],
     allocation: &[u16],
 ) -> usize
+    requires { ⌜ now functions ≡ functionDomainsIn (now t) ⌝ }
     requires { ⌜ Placed (now t) (now stack) event ⌝ }
     requires { ⌜ isCode (event .access) ≡ false ⌝ }
     requires { ⌜ from ≤ wordValues ⌝ }
@@ -136,27 +169,38 @@ fn first_granting_data(
     let mut first = table::first_descriptor(t, from);
     let mut k = from;
     while k < entries {
-        if data_granted(t, k, first, event, allocation) {
-            if entry_matches(t, k, event, stack) {
+        let at = layout::entry_at(k);
+        let reads = table::count(t, at + layout::READS_AT);
+        let writes = table::count(t, at + layout::WRITES_AT);
+        if data_granted(t, k, first, reads, writes, event, allocation) {
+            if moment_fits(t, functions, k, event, stack) {
                 return k;
             }
         }
-        first += table::descriptors_of(t, k);
+        first += reads + writes;
         k += 1;
     }
     entries
 }
 
-fn first_granting(t: &[u16], from: usize, event: Event, stack: &[u16], allocation: &[u16]) -> usize
+fn first_granting(
+    t: &[u16],
+    functions: &[u16],
+    from: usize,
+    event: Event,
+    stack: &[u16],
+    allocation: &[u16],
+) -> usize
+    requires { ⌜ now functions ≡ functionDomainsIn (now t) ⌝ }
     requires { ⌜ Placed (now t) (now stack) event ⌝ }
     requires { ⌜ from ≤ wordValues ⌝ }
     ensures { λ r. ⌜ GrantedFrom (now (t .entry)) (now (stack .entry)) event (allocationOf (now (allocation .entry)) event) from r ⌝ }
 {
     let access = event.access;
     if is_code(access) {
-        return first_granting_code(t, from, event, stack);
+        return first_granting_code(t, functions, from, event, stack);
     }
-    first_granting_data(t, from, event, stack, allocation)
+    first_granting_data(t, functions, from, event, stack, allocation)
 }
 
 // The verdict of the entries; those before the first that matches are not asked for a grant.
@@ -165,13 +209,14 @@ pub fn by_entries(t: &[u16], event: Event, stack: &[u16], allocation: &[u16]) ->
     ensures { λ r. ⌜ r ≡ byAllEntries (now (t .entry)) (now (stack .entry)) event (allocationOf (now (allocation .entry)) event) ⌝ }
 {
     let entries = table::count(t, layout::ENTRY_COUNT_AT);
-    let first = first_match(t, event, stack);
+    let functions = table::functions(t);
+    let first = first_match(t, functions, event, stack);
     if first == entries {
         return Verdict::Violation {
             number: violation::NO_ENTRY_MATCHES,
         };
     }
-    let entry = first_granting(t, first, event, stack, allocation);
+    let entry = first_granting(t, functions, first, event, stack, allocation);
     if entry == entries {
         return Verdict::Violation {
             number: violation::NONE_GRANTS,

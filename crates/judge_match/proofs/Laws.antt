@@ -20,7 +20,7 @@ use Rattle.laws.proofs.Counting.{length-map-counted, getD-counted, counted-step
 use Rattle.laws.proofs.Chains.{tested-false, tested-true, is-equal, is-other}
 use Rattle.judge_match.specs.declared.Ids.{Ids}
 use Rattle.judge_match.specs.declared.Event.{Event}
-use Rattle.judge_match.specs.Moments.{momentOf, binding, allocationOf, Placed}
+use Rattle.judge_match.specs.Moments.{momentOf, binding, allocationOf, Placed, hasSubject}
 
 -- ---- sorts
 
@@ -114,29 +114,34 @@ module _ (ws : List ℕ) (at u : ℕ) (uid : u ≡ word ws (at + uidAt)) where
 
 -- ---- an entry matches
 
+pub subject-compared : (ws : List ℕ) (event : Event) (k at w : ℕ) → at ≡ entryAt k → w ≡ word ws (at + subjectAt) → eqb (event .subject) w ≡ hasSubject ws k event
+unfolding entryIn
+subject-compared ws event k at w stands e = rw (e, stands)
+
 module _ (ws s : List ℕ) (event : Event) (placed : Placed ws s event) where
   top-lies-in : (domain : ℕ) → topLiesIn (policyIn ws) domain s ≡ eqb (event .subject) domain
   unfolding topLiesIn liesIn policyIn
   top-lies-in domain = rw (ne-eqb _ 0 (placed .some), lt-ltb _ _ (placed .listed), placed .subject)
 
-  module _ (k at : ℕ) (stands : at ≡ entryAt k) where
+  module _ (k : ℕ) where
     abbrev entryMatchesHere : Bool
     entryMatchesHere = entryMatches (policyIn ws) (entryIn ws k) (momentOf s (event .ids))
 
-    pub other-subject : (w : ℕ) → w ≡ word ws (at + subjectAt) → (w ≡ event .subject → ⊥) → false ≡ entryMatchesHere
-    unfolding entryMatches entryIn
-    other-subject w e n = rw (← stands, ← e, top-lies-in w, ne-eqb (event .subject) w (λ (h : event .subject ≡ w). n (sym h)))
+    pub other-subject : hasSubject ws k event ≡ false → false ≡ entryMatchesHere
+    unfolding entryMatches
+    other-subject h = rw (top-lies-in (entryIn ws k .subject), h)
 
-    pub other-sorts : (r : Bool) → r ≡ sortsFit (contextIn ws at) (momentOf [] (event .ids)) → not r ≡ true → false ≡ entryMatchesHere
-    unfolding entryMatches entryIn sortsFit
-    other-sorts r h n = rw (← stands) (simp (tested-false _ r h n, and-false))
+    module _ (at : ℕ) (stands : at ≡ entryAt k) where
+      pub other-sorts : (r : Bool) → r ≡ sortsFit (contextIn ws at) (momentOf [] (event .ids)) → not r ≡ true → false ≡ entryMatchesHere
+      unfolding entryMatches entryIn sortsFit
+      other-sorts r h n = rw (← stands) (simp (tested-false _ r h n, and-false))
 
-    pub pattern-decides :
-        (w : ℕ) (F p : List ℕ) (a r : Bool) → w ≡ word ws (at + subjectAt) → w ≡ event .subject → a ≡ sortsFit (contextIn ws at) (momentOf [] (event .ids)) → not a ≡ false
-        → F ≡ functionDomainsIn ws → p ≡ patternWordsIn ws at → r ≡ matches F (map elementIn p) s → r ≡ entryMatchesHere
-    unfolding entryMatches entryIn sortsFit contextIn policyIn
-    pattern-decides w F p a r e q h n x z y =
-        rw (← stands, ← e, top-lies-in w, eq-eqb (event .subject) w (sym q), tested-true _ a h n, ← x, ← z, ← y, and-true)
+      pub pattern-decides :
+          (F p : List ℕ) (a r : Bool) → hasSubject ws k event ≡ true → a ≡ sortsFit (contextIn ws at) (momentOf [] (event .ids)) → not a ≡ false
+          → F ≡ functionDomainsIn ws → p ≡ patternWordsIn ws at → r ≡ matches F (map elementIn p) s → r ≡ entryMatchesHere
+      unfolding entryMatches entryIn sortsFit contextIn policyIn
+      pattern-decides F p a r q h n x z y =
+          rw (top-lies-in (entryIn ws k .subject), q, ← stands, tested-true _ a h n, ← x, ← z, ← y, and-true)
 
 -- ---- a context fits an object
 

@@ -2,8 +2,10 @@
 use Prim.Native.Nat.{ℕ, _<_}
 use mathlib.Core.Path.{_≡_}
 use mathlib.Core.List.{List, []}
+use mathlib.Core.Bool.{Bool}
+use lib.Dec.{eqb}
 use lib.ListN.{length, getD}
-use Rattle.paper.specs.Table.{functionDomainsIn, policyIn}
+use Rattle.paper.specs.Table.{functionDomainsIn, policyIn, entryIn}
 use Rattle.paper.specs.Match.{Moment, top}
 use Rattle.paper.specs.Verdict.{targetDomain}
 use Rattle.judge_match.specs.declared.Ids.{Ids}
@@ -25,3 +27,7 @@ pub record Placed (ws stack : List ℕ) (event : Event) : Type 0 where
   pub listed : top stack < length (functionDomainsIn ws)
   pub subject : event .subject ≡ getD (functionDomainsIn ws) (top stack) 0
   pub target : event .target ≡ targetDomain (policyIn ws) (event .access)
+
+-- entry k is one of the event's subject domain
+abbrev pub hasSubject : List ℕ → ℕ → Event → Bool
+hasSubject ws k event = eqb (event .subject) (entryIn ws k .subject)

@@ -4,14 +4,15 @@ use paper::Access;
 use paper::Operation;
 use table::layout;
 ghost use mathlib.Core.Path.{_≡_};
+ghost use mathlib.Core.Bool.{true};
 ghost use mathlib.Core.List.{[], map};
 ghost use Prim.Native.Nat.{_+_, _≤_};
 ghost use Rattle.paper.specs.Common.{countUp};
-ghost use Rattle.paper.specs.Table.{entryAt, descriptorAt, policyIn, entryIn, contextIn, grantIn, descriptorIn, sortIn};
+ghost use Rattle.paper.specs.Table.{entryAt, descriptorAt, functionDomainsIn, policyIn, entryIn, contextIn, grantIn, descriptorIn, sortIn};
 ghost use Rattle.paper.specs.Match.{sortFits, sortsFit, allocatedSortFits, allocatedSortsFit, sortsAnyone, entryMatches, fitsStatic, fitsAllocated, contextFitsObject};
 ghost use Rattle.paper.specs.Match.{grants, descriptorGrants, someDescriptorGrants};
 ghost use Rattle.table.specs.Reach.{reach};
-ghost use Rattle.judge_match.specs.Moments.{momentOf, binding, allocationOf, Placed};
+ghost use Rattle.judge_match.specs.Moments.{momentOf, binding, allocationOf, Placed, hasSubject};
 
 // The uid, gid and namespace of a moment.
 pub struct Ids {
@@ -96,19 +97,27 @@ fn sorts_anyone(t: &[u16], at: usize) -> bool
     table::word(t, at + layout::NAMESPACE_AT) == layout::ANYONE
 }
 
-pub fn entry_matches(t: &[u16], k: usize, event: Event, stack: &[u16]) -> bool
+// Entry k has the event's subject.
+pub fn has_subject(t: &[u16], k: usize, event: Event) -> bool
     requires { ⌜ entryAt k ≤ reach ⌝ }
+    ensures { λ r. ⌜ r ≡ hasSubject (now (t .entry)) k event ⌝ }
+{
+    event.subject == table::word(t, layout::entry_at(k) + layout::SUBJECT_AT)
+}
+
+// Entry k, which has the subject, matches: its sorts fit the event, and its pattern the stack. The functions are the table's.
+pub fn moment_fits(t: &[u16], functions: &[u16], k: usize, event: Event, stack: &[u16]) -> bool
+    requires { ⌜ entryAt k ≤ reach ⌝ }
+    requires { ⌜ now functions ≡ functionDomainsIn (now t) ⌝ }
     requires { ⌜ Placed (now t) (now stack) event ⌝ }
+    requires { ⌜ hasSubject (now t) k event ≡ true ⌝ }
     ensures { λ r. ⌜ r ≡ entryMatches (policyIn (now (t .entry))) (entryIn (now (t .entry)) k) (momentOf (now (stack .entry)) (event .ids)) ⌝ }
 {
     let at = layout::entry_at(k);
-    if table::word(t, at + layout::SUBJECT_AT) != event.subject {
-        return false;
-    }
     if !sorts_fit(t, at, event.ids) {
         return false;
     }
-    judge_pattern::matches_stack(table::functions(t), table::pattern_at(t, at), stack)
+    judge_pattern::matches_stack(functions, table::pattern_at(t, at), stack)
 }
 
 // Only `all` everywhere fits a static object.

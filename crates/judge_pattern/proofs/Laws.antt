@@ -15,10 +15,10 @@ use Rattle.laws.specs.Frames.{meetsFrame}
 use Rattle.laws.proofs.Places.{drop-more}
 use Rattle.laws.proofs.Chains.{tested-false, tested-true}
 use Rattle.laws.proofs.Elements.{empty-refuses, all-takes, word-function, word-domain, word-single, at-element, at-all, at-single, at-end}
-use Rattle.judge_pattern.specs.Run.{matchesFrom, matchesLater, FitsToAll, Says}
+use Rattle.judge_pattern.specs.Run.{matchesFrom, matchesLater, BehindAlls, FitsToAll, Says}
 use Rattle.judge_pattern.specs.declared.Run.{Run}
 use Rattle.judge_pattern.specs.declared.Run.the-variants.{Match, Fail, Never, All}
-use Rattle.judge_pattern.proofs.Lists.{all-refuses, all-swallows, all-alone, all-twice, later-at-end, later-refuses}
+use Rattle.judge_pattern.proofs.Lists.{all-refuses, all-swallows, all-alone, all-twice, alls-as-one, later-at-end, later-refuses}
 
 -- ---- an element that is not `all`, and a frame
 
@@ -124,42 +124,54 @@ module _ (F p : List ℕ) (i : ℕ) (s : List ℕ) (j : ℕ) (r : Run) (says : S
   pub rest-in-stack : b ≤ length s
   rest-in-stack = fits-to-all .inStack
 
+-- ---- `all`s that stand together
+
+module _ (p : List ℕ) (i : ℕ) where
+  pub no-all-yet : i ≤ length p → BehindAlls p i i
+  no-all-yet h = record { further = omega arith; inPattern = h; decides = λ F s j. refl }
+
+  pub one-more-all : (a : ℕ) → BehindAlls p i a → a < length p → getD p a 0 ≡ 0 → BehindAlls p i (a + 1)
+  one-more-all a behind h e =
+      let f : i ≤ a = behind .further in
+      record { further = omega arith; inPattern = omega arith; decides = λ F s j. behind .decides F s j ∙ rw (at-all p a h e) (alls-as-one F (map elementIn (drop (a + 1) p)) (drop j s)) }
+
 -- ---- the frames that an `all` may swallow
 
-module _ (F p : List ℕ) (i : ℕ) (s : List ℕ) (j : ℕ) where
-  pub none-swallowed : matchesLater F p i s j ≡ matchesLater F p i s (j + 0)
-  none-swallowed = let e : j + 0 ≡ j = omega arith in rw e
+-- behind the `all`s from place i on, at place a
+module _ (F p : List ℕ) (i a : ℕ) (behind : BehindAlls p i a) (s : List ℕ) (j : ℕ) where
+  pub none-swallowed : matchesLater F p i s j ≡ matchesLater F p a s (j + 0)
+  none-swallowed = let e : j + 0 ≡ j = omega arith in rw e (behind .decides F s j)
 
-  pub last-all : i ≡ length p → true ≡ matchesLater F p i s j
-  last-all h = let l : length p ≤ i = omega arith in sym (rw (at-end p i l) (all-alone F (drop j s)))
+  pub last-all : a ≡ length p → true ≡ matchesLater F p i s j
+  last-all h = let l : length p ≤ a = omega arith in sym (behind .decides F s j ∙ rw (at-end p a l) (all-alone F (drop j s)))
 
--- it has swallowed n frames in vain
-module _ (F p : List ℕ) (i : ℕ) (s : List ℕ) (j n : ℕ) (vain : matchesLater F p i s j ≡ matchesLater F p i s (j + n)) (r : Run) (says : Says r F p i s (j + n)) where
-  pub walk-matches : r ≡ Match → true ≡ matchesLater F p i s j
+-- it has swallowed n frames in vain: what is left at place i decides
+module _ (F p : List ℕ) (i : ℕ) (s : List ℕ) (j n : ℕ) (whole : Bool) (vain : whole ≡ matchesLater F p i s (j + n)) (r : Run) (says : Says r F p i s (j + n)) where
+  pub walk-matches : r ≡ Match → true ≡ whole
   walk-matches e = sym (vain ∙ all-takes F (map elementIn (drop i p)) (drop (j + n) s) (rw e at says))
 
-  pub walk-never : r ≡ Never → false ≡ matchesLater F p i s j
+  pub walk-never : r ≡ Never → false ≡ whole
   walk-never e = sym (vain ∙ (rw e at says))
 
-  pub walk-ends : r ≡ Fail → j + n ≡ length s → false ≡ matchesLater F p i s j
+  pub walk-ends : r ≡ Fail → j + n ≡ length s → false ≡ whole
   unfolding matches swallowing
   walk-ends e k =
       let l : length s ≤ j + n = omega arith in
       sym (vain ∙ rw (drop-of-length-le s l) (rw (drop-of-length-le s l) at (rw e at says)))
 
-  pub walk-swallows : r ≡ Fail → j + n ≤ length s → (j + n ≡ length s → ⊥) → matchesLater F p i s j ≡ matchesLater F p i s (j + (n + 1))
+  pub walk-swallows : r ≡ Fail → j + n ≤ length s → (j + n ≡ length s → ⊥) → whole ≡ matchesLater F p i s (j + (n + 1))
   walk-swallows e h k =
       let l : j + n < length s = omega arith in
       let next : j + (n + 1) ≡ j + n + 1 = omega arith in
       let fails : matchesFrom F p i s (j + n) ≡ false = rw e at says in
       vain ∙ rw (next, drop-more s (j + n) l) (all-swallows F (map elementIn (drop i p)) (getD s (j + n) 0) (drop (j + n + 1) s) (rw (drop-more s (j + n) l) at fails))
 
-  pub walk-falls : (a b : ℕ) → r ≡ All a b → (m : ℕ) → (length p - i) + (length s - j) ≡ m → (length p - a) + (length s - b) < m
-  walk-falls a b e m h =
+  pub walk-falls : (a b : ℕ) → r ≡ All a b → (from m : ℕ) → from ≤ i → (length p - from) + (length s - j) ≡ m → (length p - a) + (length s - b) < m
+  walk-falls a b e from m g h =
       let fits : FitsToAll F p i s (j + n) a b = fits-to-all F p i s (j + n) r says a b e in
       omega arith
 
-  pub walk-all : (a b : ℕ) → r ≡ All a b → (t : Bool) → t ≡ matchesLater F p a s b → t ≡ matchesLater F p i s j
+  pub walk-all : (a b : ℕ) → r ≡ All a b → (t : Bool) → t ≡ matchesLater F p a s b → t ≡ whole
   walk-all a b e t h = h ∙ sym (vain ∙ fits-to-all F p i s (j + n) r says a b e .decidesLater)
 
 -- ---- a run from the front

@@ -1,3 +1,4 @@
 pub mod Lists
+mod Ends
 mod Laws
 pub mod Relation

@@ -1,14 +1,14 @@
 -- What `matches` says of `all` and of elements that are not, over plain lists.
 use Prim.Native.Nat.{ℕ}
 use mathlib.Core.Path.{_≡_, refl}
-use mathlib.Core.Bool.{true, false}
+use mathlib.Core.Bool.{Bool, true, false}
 use mathlib.Core.List.{List, [], _∷_}
 use Rattle.paper.specs.Common.{isEmpty}
 use Rattle.paper.specs.Policy.{Element, all}
 use Rattle.paper.specs.Match.{swallowing, firstMeets, matches, isAll}
 use Rattle.laws.specs.Frames.{meetsFrame}
 use Rattle.laws.proofs.Tests.{both-false, either-right, neither, neither-left, neither-right}
-use Rattle.laws.proofs.Elements.{single-matches}
+use Rattle.laws.proofs.Elements.{all-takes, single-matches}
 
 module _ (F : List ℕ) where
   pub all-refuses : (p : List Element) (s : List ℕ) → matches F (all ∷ p) s ≡ false → matches F p s ≡ false
@@ -31,6 +31,13 @@ module _ (F : List ℕ) where
   all-twice p [] h = h
   all-twice p (x ∷ s) h =
       neither (matches F (all ∷ p) (x ∷ s)) (matches F (all ∷ all ∷ p) s) h (all-twice p s (neither-right (matches F p (x ∷ s)) (matches F (all ∷ p) s) h))
+
+  pub alls-as-one : (p : List Element) (s : List ℕ) → matches F (all ∷ all ∷ p) s ≡ matches F (all ∷ p) s
+  alls-as-one p s = go (matches F (all ∷ p) s) refl
+    where
+      go : (t : Bool) → matches F (all ∷ p) s ≡ t → matches F (all ∷ all ∷ p) s ≡ t
+      go true h = all-takes F (all ∷ p) s h
+      go false h = all-twice p s h
 
   -- ---- an element that is not `all`, before a pattern
   module _ (e : Element) (single : isAll e ≡ false) (p : List Element) where

@@ -1,12 +1,14 @@
--- What a run of elements up to an `all` says of a pattern and a stack, the functions being given by their domains.
+-- What the elements behind the last `all`, and a run of elements up to an `all`, say of a pattern and a stack, the functions being given by their domains.
 use Prim.Native.Nat.{ℕ, _<_, _≤_}
 use mathlib.Core.Path.{_≡_}
 use mathlib.Core.Bool.{Bool, true, false}
 use mathlib.Core.List.{List, _∷_, map}
-use lib.ListN.{length, drop}
+use lib.ListN.{length, take, drop}
 use Rattle.paper.specs.Policy.{all}
 use Rattle.paper.specs.Table.{elementIn}
 use Rattle.paper.specs.Match.{matches}
+use Rattle.judge_pattern.specs.declared.Top.{Top}
+use Rattle.judge_pattern.specs.declared.Top.the-variants.{Differs, Meets}
 use Rattle.judge_pattern.specs.declared.Run.{Run}
 use Rattle.judge_pattern.specs.declared.Run.the-variants.{Match, Fail, Never, All}
 
@@ -17,6 +19,12 @@ matchesFrom F p i s j = matches F (map elementIn (drop i p)) (drop j s)
 -- it does so behind an `all`: from place j on or from a later one
 abbrev pub matchesLater : List ℕ → List ℕ → ℕ → List ℕ → ℕ → Bool
 matchesLater F p i s j = matches F (all ∷ map elementIn (drop i p)) (drop j s)
+
+-- from place i up to place a there is nothing but `all`: behind an `all` it makes no difference
+pub record BehindAlls (p : List ℕ) (i a : ℕ) : Type 0 where
+  pub further : i ≤ a
+  pub inPattern : a ≤ length p
+  pub decides : (F s : List ℕ) (j : ℕ) → matchesLater F p i s j ≡ matchesLater F p a s j
 
 -- from places i and j on every element up to an `all` fits; a is the place after it, b that of the next frame
 pub record FitsToAll (F p : List ℕ) (i : ℕ) (s : List ℕ) (j a b : ℕ) : Type 0 where
@@ -34,3 +42,13 @@ Says Match F p i s j = matchesFrom F p i s j ≡ true
 Says Fail F p i s j = matchesFrom F p i s j ≡ false
 Says Never F p i s j = matchesLater F p i s j ≡ false
 Says (All a b) F p i s j = FitsToAll F p i s j a b
+
+-- every element from place a on meets its frame from place b on: what stands before them decides
+pub record LeftBelow (F p s : List ℕ) (a b : ℕ) : Type 0 where
+  pub inPattern : a ≤ length p
+  pub inStack : b ≤ length s
+  pub decides : matches F (map elementIn p) s ≡ matches F (map elementIn (take a p)) (take b s)
+
+abbrev pub SaysOfTop : Top → List ℕ → List ℕ → List ℕ → Type 0
+SaysOfTop Differs F p s = matches F (map elementIn p) s ≡ false
+SaysOfTop (Meets a b) F p s = LeftBelow F p s a b

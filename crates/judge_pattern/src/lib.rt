@@ -8,7 +8,7 @@ ghost use Rattle.paper.specs.Common.{allOf};
 ghost use Rattle.paper.specs.Match.{matches, isAll};
 ghost use Rattle.paper.specs.Table.{elementIn};
 ghost use Rattle.laws.specs.Frames.{meetsFrame};
-ghost use Rattle.judge_pattern.specs.Run.{Says, matchesLater};
+ghost use Rattle.judge_pattern.specs.Run.{Says, SaysOfTop, BehindAlls, matchesLater};
 
 // An element that is not `all` meets a frame: it is that function, or a domain that the function lies in.
 fn meets(functions: &[u16], one: u16, frame: u16) -> bool
@@ -23,6 +23,40 @@ fn meets(functions: &[u16], one: u16, frame: u16) -> bool
         return false;
     }
     functions[f] == one - element::FIRST_DOMAIN
+}
+
+// What comes of holding the elements behind the last `all` against the top frames.
+enum Top {
+    // one of them has no frame, or does not meet it
+    Differs,
+    // each meets its own: so many elements and frames are left before them
+    Meets { elements: usize, frames: usize },
+}
+
+// Reads elements and frames from both ends down, up to an `all`: most patterns that do not match tell here.
+fn from_top(functions: &[u16], pattern: &[u16], stack: &[u16]) -> Top
+    ensures { λ r. ⌜ SaysOfTop r (now (functions .entry)) (now (pattern .entry)) (now (stack .entry)) ⌝ }
+{
+    let mut a = pattern.len();
+    let mut b = stack.len();
+    while 0 < a {
+        let last = pattern[a - 1];
+        if last == element::ALL {
+            break;
+        }
+        if b == 0 {
+            return Top::Differs;
+        }
+        if !meets(functions, last, stack[b - 1]) {
+            return Top::Differs;
+        }
+        a -= 1;
+        b -= 1;
+    }
+    Top::Meets {
+        elements: a,
+        frames: b,
+    }
 }
 
 // What comes of reading an element and a frame at a time, up to an `all`.
@@ -68,19 +102,35 @@ fn up_to_all(functions: &[u16], pattern: &[u16], i: usize, stack: &[u16], j: usi
     }
 }
 
+// The first place from i on that is not `all`, or the end: `all`s that stand together swallow what one does.
+fn behind_alls(pattern: &[u16], i: usize) -> usize
+    requires { ⌜ i ≤ length (now pattern) ⌝ }
+    ensures { λ r. ⌜ BehindAlls (now (pattern .entry)) i r ⌝ }
+{
+    let mut a = i;
+    while a < pattern.len() {
+        if pattern[a] != element::ALL {
+            return a;
+        }
+        a += 1;
+    }
+    a
+}
+
 // The pattern from place i on, behind an `all`, against the stack from place j on.
 // Once the elements up to the next `all` fit, no later place is tried: the frames between, that `all` can swallow.
 fn walk(functions: &[u16], pattern: &[u16], i: usize, stack: &[u16], j: usize) -> bool
     requires { ⌜ (i ≤ length (now pattern)) × (j ≤ length (now stack)) ⌝ }
     ensures { λ r. ⌜ r ≡ matchesLater (now (functions .entry)) (now (pattern .entry)) i (now (stack .entry)) j ⌝ }
 {
-    if i == pattern.len() {
+    let start = behind_alls(pattern, i);
+    if start == pattern.len() {
         return true;
     }
     let mut swallowed = 0;
     loop {
         let k = j + swallowed;
-        match up_to_all(functions, pattern, i, stack, k) {
+        match up_to_all(functions, pattern, start, stack, k) {
             Run::Match => return true,
             Run::Never => return false,
             Run::All { rest, frame } => return walk(functions, pattern, rest, stack, frame),
@@ -95,8 +145,8 @@ fn walk(functions: &[u16], pattern: &[u16], i: usize, stack: &[u16], j: usize) -
     false
 }
 
-// The pattern matches the stack.
-pub fn matches_stack(functions: &[u16], pattern: &[u16], stack: &[u16]) -> bool
+// The pattern matches the stack, from the base up.
+fn matches_from_base(functions: &[u16], pattern: &[u16], stack: &[u16]) -> bool
     ensures { λ r. ⌜ r ≡ matches (now (functions .entry)) (map elementIn (now (pattern .entry))) (now (stack .entry)) ⌝ }
 {
     match up_to_all(functions, pattern, 0, stack, 0) {
@@ -104,6 +154,20 @@ pub fn matches_stack(functions: &[u16], pattern: &[u16], stack: &[u16]) -> bool
         Run::Fail => false,
         Run::Never => false,
         Run::All { rest, frame } => walk(functions, pattern, rest, stack, frame),
+    }
+}
+
+// The pattern matches the stack: first its end, which fails soonest.
+pub fn matches_stack(functions: &[u16], pattern: &[u16], stack: &[u16]) -> bool
+    ensures { λ r. ⌜ r ≡ matches (now (functions .entry)) (map elementIn (now (pattern .entry))) (now (stack .entry)) ⌝ }
+{
+    match from_top(functions, pattern, stack) {
+        Top::Differs => false,
+        Top::Meets { elements, frames } => matches_from_base(
+            functions,
+            &pattern[..elements],
+            &stack[..frames],
+        ),
     }
 }
 

@@ -15,15 +15,17 @@ use table_blocks::is_zero;
 use table_blocks::members_fit;
 ghost use mathlib.Core.Path.{_≡_};
 ghost use Prim.Native.Nat.{_+_, _<_, _≤_};
+ghost use lib.ListN.{length};
 ghost use Rattle.paper.specs.Common.{upTo};
 ghost use Rattle.paper.specs.Limits.{mostEntries, mostDescriptors};
 ghost use Rattle.paper.specs.Table.{descriptorAt, entryCount};
 ghost use Rattle.paper.specs.Table.{countsFit};
 ghost use Rattle.paper.specs.Table.{entriesFit};
-ghost use Rattle.paper.specs.Table.{namespaceAt, onePrincipal, boundAt, boundBy, wellFormed};
+ghost use Rattle.paper.specs.Table.{principalSize, namespaceAt, onePrincipal, boundAt, boundBy, wellFormed};
 ghost use Rattle.table.specs.Reach.{reach};
 ghost use Rattle.table_blocks.specs.Parts.{entryBlockFits, descriptorBlockFits, principalIsNew, descriptorsBound};
 ghost use Rattle.table_blocks.specs.Parts.{entryBound, blocksFit, restFits};
+ghost use Rattle.table_test.specs.Sums.{weighed, isOtherSum, principalSum, Summed};
 
 fn counts_fit(t: &[u16]) -> bool
     ensures { λ r. ⌜ r ≡ countsFit (now (t .entry)) ⌝ }
@@ -122,21 +124,64 @@ fn principal_is_new(t: &[u16], k: usize) -> bool
     true
 }
 
+// A sum of words, each as often as its place says: equal words have equal sums, and words in another order mostly have others.
+fn weighed(words: &[u16]) -> u32
+    requires { ⌜ length (now words) ≤ principalSize ⌝ }
+    ensures { λ r. ⌜ r ≡ weighed (now (words .entry)) ⌝ }
+{
+    let mut sum: u32 = 0;
+    let mut i: usize = 0;
+    while i < words.len() {
+        sum += words[i] as u32 * (i as u32 + 1);
+        i += 1;
+    }
+    sum
+}
+
+// None of the first n sums is this one. The loop has no exit, so that it takes many at a time.
+fn is_new_sum(sums: &[u32], n: usize, sum: u32) -> bool
+    requires { ⌜ n ≤ length (now sums) ⌝ }
+    ensures { λ r. ⌜ r ≡ upTo (isOtherSum (now (sums .entry)) sum) n ⌝ }
+{
+    let mut new = true;
+    let mut j: usize = 0;
+    while j < n {
+        new = new & (sums[j] != sum);
+        j += 1;
+    }
+    new
+}
+
+// The same of entry k, whose sum is given with those before it: principals are compared only where sums are equal.
+fn is_new_by_sum(t: &[u16], sums: &[u32], k: usize, sum: u32) -> bool
+    requires { ⌜ k ≤ mostEntries ⌝ }
+    requires { ⌜ Summed (now t) (now sums) k ⌝ }
+    requires { ⌜ sum ≡ principalSum (now t) k ⌝ }
+    ensures { λ r. ⌜ r ≡ principalIsNew (now (t .entry)) k ⌝ }
+{
+    if is_new_sum(sums, k, sum) {
+        return true;
+    }
+    principal_is_new(t, k)
+}
+
 fn principals_differ(t: &[u16], entries: usize) -> bool
     requires { ⌜ entries ≤ mostEntries ⌝ }
     ensures { λ r. ⌜ r ≡ upTo (principalIsNew (now (t .entry))) entries ⌝ }
 {
+    let mut sums = [0u32; limit::ENTRIES];
     let mut k: usize = 0;
     while k < entries {
-        if !principal_is_new(t, k) {
+        let sum = weighed(part(t, entry_at(k), layout::PRINCIPAL_SIZE));
+        if !is_new_by_sum(t, &sums, k, sum) {
             return false;
         }
+        sums[k] = sum;
         k += 1;
     }
     true
 }
 
-// A sort that is a variable has one in the entry.
 // A variable in the context at a place has one at the same key of its entry.
 fn bound_at(t: &[u16], entry: usize, at: usize, key: usize) -> bool
     requires { ⌜ (entry ≤ reach) × (at ≤ reach) × (key ≤ namespaceAt) ⌝ }

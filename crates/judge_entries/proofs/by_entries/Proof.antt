@@ -7,6 +7,9 @@ use Rattle.judge_entries.proofs.by_entries.Tie as tie
 count-requires : tie.Need-count-requires
 count-requires c κs = search needs
 
+functions-requires : tie.Need-functions-requires
+functions-requires c κs = search needs
+
 first-match-requires : tie.Need-first-match-requires
 first-match-requires c κs = search needs
 
@@ -19,8 +22,8 @@ first-granting-requires c κs = search needs
 returns-2 : tie.Need-returns-2
 returns-2 c = search (needs, none-of-them-grants)
 
-cast-t9 : tie.Need-cast-t9
-cast-t9 c = search needs
+cast-t10 : tie.Need-cast-t10
+cast-t10 c = search needs
 
 returns-3 : tie.Need-returns-3
 returns-3 c = search (needs, one-grants)
@@ -30,9 +33,10 @@ by-entries-spec =
     tie.close
     (tie.spec
     count-requires
+    functions-requires
     first-match-requires
     returns
     first-granting-requires
     returns-2
-    cast-t9
+    cast-t10
     returns-3)

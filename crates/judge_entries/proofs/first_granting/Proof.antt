@@ -14,7 +14,7 @@ returns : tie.Need-returns
 returns c = search (needs, for-this-allocation)
 
 first-granting-data-requires : tie.Need-first-granting-data-requires
-first-granting-data-requires c κs = (search needs, (search (needs, is-data), search needs))
+first-granting-data-requires c κs = (search needs, (search needs, (search (needs, is-data), search needs)))
 
 returns-2 : tie.Need-returns-2
 returns-2 c = search needs

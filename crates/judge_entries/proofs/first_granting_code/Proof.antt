@@ -1,17 +1,17 @@
 -- The loop: the entries that are left decide as those from the first match on do, whatever the allocation.
 use Rattle.paper.specs.Table.{entryCount}
 use Prim.Native.Nat.{_-_}
-use Rattle.judge_entries.proofs.Passes.{CodeLeft, code-ends, code-not-granted, code-not-matched, code-allowed}
+use Rattle.judge_entries.proofs.Passes.{granted-has-it, CodeLeft, code-ends, code-not-granted, code-not-matched, code-allowed}
 use mathlib.Core.Logic.{⊎-elim}
 use borrow.Author.Needs.{needs}
 use Rattle.judge_entries.proofs.first_granting_code.Statement.{statement}
 use Rattle.judge_entries.proofs.first_granting_code.Tie as tie
 
 abbrev Inv-loop : tie.InvT-loop
-Inv-loop t from event stack entries domains grant-at k₀ k = CodeLeft t stack event from k
+Inv-loop t functions from event stack entries domains grant-at k₀ k = CodeLeft t stack event from k
 
 abbrev μ-loop : tie.MeasureT-loop
-μ-loop t from event stack entries domains grant-at k₀ k = entryCount t - k
+μ-loop t functions from event stack entries domains grant-at k₀ k = entryCount t - k
 
 count-requires : tie.Need-count-requires Inv-loop μ-loop
 count-requires c κs = search needs
@@ -25,17 +25,11 @@ code-grant-at-requires c κs = search needs
 loop-holds : tie.Need-loop-holds Inv-loop μ-loop
 loop-holds c = search needs
 
-entry-at-requires : tie.Need-entry-at-requires Inv-loop μ-loop
-entry-at-requires c κs = search needs
+code-granted-requires : tie.Need-code-granted-requires Inv-loop μ-loop
+code-granted-requires c κs = search needs
 
-add-grant-holds : tie.Need-add-grant-holds Inv-loop μ-loop
-add-grant-holds c = search needs
-
-grant-holds-requires : tie.Need-grant-holds-requires Inv-loop μ-loop
-grant-holds-requires c κs = search needs
-
-entry-matches-requires : tie.Need-entry-matches-requires Inv-loop μ-loop
-entry-matches-requires c κs = search needs
+moment-fits-requires : tie.Need-moment-fits-requires Inv-loop μ-loop
+moment-fits-requires c κs = (search needs, (search needs, (search needs, search (needs, granted-has-it))))
 
 returns : tie.Need-returns Inv-loop μ-loop
 returns c = search (needs, code-allowed)
@@ -62,10 +56,8 @@ first-granting-code-spec =
     count-requires-2
     code-grant-at-requires
     loop-holds
-    entry-at-requires
-    add-grant-holds
-    grant-holds-requires
-    entry-matches-requires
+    code-granted-requires
+    moment-fits-requires
     returns
     add-k
     loop-less

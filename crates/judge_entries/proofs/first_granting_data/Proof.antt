@@ -2,23 +2,23 @@
 use mathlib.Core.Logic.{⊎-elim}
 use mathlib.Core.Path.{_≡_}
 use Rattle.table.specs.Reach.{wordValues}
-use Rattle.table.proofs.Laws.{sum-again}
+use Rattle.table.proofs.Laws.{sum-again, both-counts}
 use Rattle.paper.specs.Table.{entryCount, firstDescriptor}
 use Prim.Native.Nat.{_≤_, _*_, _-_}
 use Rattle.judge_match.specs.Moments.{allocationOf}
-use Rattle.judge_entries.proofs.Passes.{left, data-ends, data-not-granted, data-not-matched, data-allowed}
+use Rattle.judge_entries.proofs.Passes.{granted-has-it, left, count-of-entry, data-ends, data-not-granted, data-not-matched, data-allowed}
 use borrow.Author.Needs.{needs}
 use Rattle.judge_entries.proofs.first_granting_data.Statement.{statement}
 use Rattle.judge_entries.proofs.first_granting_data.Tie as tie
 
 abbrev Inv-loop : tie.InvT-loop
-Inv-loop t from event stack allocation entries first₀ k₀ first k =
+Inv-loop t functions from event stack allocation entries first₀ k₀ first k =
     (first ≡ firstDescriptor t k)
     × (first ≤ 2 * wordValues * k)
     × (left t stack event (allocationOf allocation event) k ≡ left t stack event (allocationOf allocation event) from)
 
 abbrev μ-loop : tie.MeasureT-loop
-μ-loop t from event stack allocation entries first₀ k₀ first k = entryCount t - k
+μ-loop t functions from event stack allocation entries first₀ k₀ first k = entryCount t - k
 
 count-requires : tie.Need-count-requires Inv-loop μ-loop
 count-requires c κs = search needs
@@ -29,20 +29,36 @@ first-descriptor-requires c κs = search needs
 loop-holds : tie.Need-loop-holds Inv-loop μ-loop
 loop-holds c = search needs
 
-data-granted-requires : tie.Need-data-granted-requires Inv-loop μ-loop
-data-granted-requires c κs = search needs
+entry-at-requires : tie.Need-entry-at-requires Inv-loop μ-loop
+entry-at-requires c κs = search needs
 
-entry-matches-requires : tie.Need-entry-matches-requires Inv-loop μ-loop
-entry-matches-requires c κs = search needs
+add-count : tie.Need-add-count Inv-loop μ-loop
+add-count c = search needs
+
+count-requires-2 : tie.Need-count-requires-2 Inv-loop μ-loop
+count-requires-2 c κs = search needs
+
+add-count-2 : tie.Need-add-count-2 Inv-loop μ-loop
+add-count-2 c = search needs
+
+count-requires-3 : tie.Need-count-requires-3 Inv-loop μ-loop
+count-requires-3 c κs = search needs
+
+data-granted-requires : tie.Need-data-granted-requires Inv-loop μ-loop
+data-granted-requires c κs =
+    (search needs, (search needs, (search (needs, count-of-entry), search (needs, count-of-entry), search needs)))
+
+moment-fits-requires : tie.Need-moment-fits-requires Inv-loop μ-loop
+moment-fits-requires c κs = (search needs, (search needs, (search needs, search (needs, granted-has-it))))
 
 returns : tie.Need-returns Inv-loop μ-loop
 returns c = search (needs, data-allowed)
 
-descriptors-of-requires : tie.Need-descriptors-of-requires Inv-loop μ-loop
-descriptors-of-requires c κs = search needs
-
 add-first : tie.Need-add-first Inv-loop μ-loop
 add-first c = search needs
+
+add-first-2 : tie.Need-add-first-2 Inv-loop μ-loop
+add-first-2 c = search needs
 
 add-k : tie.Need-add-k Inv-loop μ-loop
 add-k c = search needs
@@ -51,11 +67,17 @@ loop-less : tie.Need-loop-less Inv-loop μ-loop
 loop-less c = search needs
 
 loop-again : tie.Need-loop-again Inv-loop μ-loop
-loop-again c = (
-  search (needs, sum-again),
-  search needs,
-  ⊎-elim (λ w. search (needs, data-not-matched)) (λ w. search (needs, data-not-granted)) (c .before .if1 .came),
-)
+loop-again c =
+    let counted = c .before .before .before .before .before .before .before .before .count .ensures .0 in
+    let same = c .before .before .before .before .before .before .loop .inv .2 in
+    let below = c .before .before .before .before .before .loop-test .taken in (
+      search (needs, sum-again, both-counts),
+      search needs,
+      ⊎-elim
+          (λ w. data-not-matched _ _ _ _ _ _ _ counted same below _ (w .1 .ensures) (w .2 .left))
+          (λ w. data-not-granted _ _ _ _ _ _ _ counted same below (c .before .before .before .before .before .before .before .before .before .before .before .before .before .pre .1 .0) _ (c .before .data-granted .ensures) (w .left))
+          (c .if1 .came),
+    )
 
 returns-2 : tie.Need-returns-2 Inv-loop μ-loop
 returns-2 c = search (needs, data-ends)
@@ -69,11 +91,16 @@ first-granting-data-spec =
     count-requires
     first-descriptor-requires
     loop-holds
+    entry-at-requires
+    add-count
+    count-requires-2
+    add-count-2
+    count-requires-3
     data-granted-requires
-    entry-matches-requires
+    moment-fits-requires
     returns
-    descriptors-of-requires
     add-first
+    add-first-2
     add-k
     loop-less
     loop-again

@@ -10,6 +10,7 @@ use borrow.Fn.PlainCycle.{Measures, is, falls, and}
 use Rattle.judge_pattern.proofs.walk.Reads as walk
 use Rattle.judge_pattern.proofs.walk.Kinds as walk-kinds
 use Rattle.judge_pattern.proofs.+walk.Lts-walk as walk-lts
+use Rattle.judge_pattern.proofs.behind_alls.Reads as behind-alls-reads
 use Rattle.judge_pattern.proofs.up_to_all.Reads as up-to-all-reads
 use Rattle.judge_pattern.proofs.+walk.{statement}
 use Rattle.judge_pattern.proofs.+walk.Tie.{close}
@@ -25,14 +26,17 @@ walk-below t = and 3 walk-kinds.ps (falls 3 walk-kinds.ps _<_ μ-walk t) walk.Pr
 
 -- what is known of the functions that it calls, at measure t
 abbrev claims : ℕ → walk-lts.Claims
-claims t = (up-to-all-reads.Asked, up-to-all-reads.Learnt, walk-below t, walk.Post)
+claims t = (behind-alls-reads.Asked, behind-alls-reads.Learnt, up-to-all-reads.Asked, up-to-all-reads.Learnt, walk-below t, walk.Post)
 
 abbrev walk-Inv-loop : walk-lts.InvT-loop
-walk-Inv-loop functions pattern i stack j swallowed₀ swallowed =
-    (j + swallowed ≤ length stack) × (matchesLater functions pattern i stack j ≡ matchesLater functions pattern i stack (j + swallowed))
+walk-Inv-loop functions pattern i stack j start swallowed₀ swallowed =
+    (j + swallowed ≤ length stack) × (matchesLater functions pattern i stack j ≡ matchesLater functions pattern start stack (j + swallowed))
 
 abbrev walk-μ-loop : walk-lts.MeasureT-loop
-walk-μ-loop functions pattern i stack j swallowed₀ swallowed = length stack - (j + swallowed)
+walk-μ-loop functions pattern i stack j start swallowed₀ swallowed = length stack - (j + swallowed)
+
+walk-behind-alls-requires : (t : ℕ) → walk-lts.Need-behind-alls-requires (claims t) (walk-at t) walk.Post walk-Inv-loop walk-μ-loop
+walk-behind-alls-requires t c κs = search needs
 
 walk-returns : (t : ℕ) → walk-lts.Need-returns (claims t) (walk-at t) walk.Post walk-Inv-loop walk-μ-loop
 walk-returns t c = search (needs, last-all)
@@ -88,6 +92,7 @@ pub +walk-spec : {M : Type 1} → statement M
     walk.Post
     walk-Inv-loop
     walk-μ-loop
+    (walk-behind-alls-requires t)
     (walk-returns t)
     (walk-loop-holds t)
     (walk-add-k t)

@@ -1,50 +1,43 @@
--- A run from the front, and the walk behind an `all`.
-use Rattle.judge_pattern.proofs.Laws.{rest-in-pattern, rest-in-stack, front-matches, front-fails, front-never, front-all}
+-- The end of the pattern, then what is left from the base up.
 use borrow.Author.Needs.{needs}
+use lib.Seq.{length-take-le}
+use Rattle.judge_pattern.proofs.Ends.{top-refuses, left-in-pattern, left-in-stack, left-decides}
 use Rattle.judge_pattern.proofs.matches_stack.Statement.{statement}
 use Rattle.judge_pattern.proofs.matches_stack.Tie as tie
 
-up-to-all-requires : tie.Need-up-to-all-requires
-up-to-all-requires c κs = search needs
+from-top-requires : tie.Need-from-top-requires
+from-top-requires c κs = search needs
 
 enum-told : tie.Need-enum-told
 enum-told c = search needs
 
-enum-told-2 : tie.Need-enum-told-2
-enum-told-2 c = search needs
+enum-known-elements : tie.Need-enum-known-elements
+enum-known-elements c = search needs
 
-enum-told-3 : tie.Need-enum-told-3
-enum-told-3 c = search needs
+slice-aggregate-matches-from-base : tie.Need-slice-aggregate-matches-from-base
+slice-aggregate-matches-from-base c = search (needs, length-take-le, left-in-pattern)
 
-enum-known-rest : tie.Need-enum-known-rest
-enum-known-rest c = search needs
+slice-aggregate-matches-from-base-2 : tie.Need-slice-aggregate-matches-from-base-2
+slice-aggregate-matches-from-base-2 c = search (needs, length-take-le, left-in-stack)
 
-walk-requires : tie.Need-walk-requires
-walk-requires c κs = search (needs, rest-in-pattern, rest-in-stack)
+matches-from-base-requires : tie.Need-matches-from-base-requires
+matches-from-base-requires c κs = search needs
 
 returns : tie.Need-returns
-returns c = search (needs, front-matches)
+returns c = search (needs, top-refuses)
 
 returns-2 : tie.Need-returns-2
-returns-2 c = search (needs, front-fails)
-
-returns-3 : tie.Need-returns-3
-returns-3 c = search (needs, front-never)
-
-returns-4 : tie.Need-returns-4
-returns-4 c = search (needs, front-all)
+returns-2 c = search (needs, left-decides)
 
 pub matches-stack-spec : {M : Type 1} → statement M
 matches-stack-spec =
     tie.close
     (tie.spec
-    up-to-all-requires
+    from-top-requires
     enum-told
-    enum-told-2
-    enum-told-3
-    enum-known-rest
-    walk-requires
+    enum-known-elements
+    slice-aggregate-matches-from-base
+    slice-aggregate-matches-from-base-2
+    matches-from-base-requires
     returns
-    returns-2
-    returns-3
-    returns-4)
+    returns-2)
