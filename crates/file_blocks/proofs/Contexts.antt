@@ -78,6 +78,9 @@ module _ (out : List ℕ) (z : out ≡ replicate contextSize 0) where
   context-long : length out ≡ contextSize
   context-long = rw z (length-replicate {A = ℕ} contextSize 0)
 
+  pub room-for-one : 0 < length out
+  room-for-one = omega (arith, context-long)
+
   pub room-for-uid : 1 < length out
   room-for-uid = omega (arith, context-long)
 

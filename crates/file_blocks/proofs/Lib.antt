@@ -4,3 +4,4 @@ pub mod Contexts
 pub mod Granted
 pub mod Placed
 pub mod Entries
+pub mod Keys

@@ -1,7 +1,7 @@
 -- The words of a context and of a grant as the code writes them, from the words of their names.
-use Prim.Native.Nat.{ℕ, _+_, _-_}
+use Prim.Native.Nat.{ℕ, zero, suc, _+_, _-_}
 use mathlib.Core.List.{List, [], _∷_, map}
-use mathlib.Core.Bool.{Bool, cond, _||_}
+use mathlib.Core.Bool.{Bool, cond, _&&_, _||_}
 use lib.Dec.{ltb, leb}
 use lib.ListN.{length, set, replicate}
 use Rattle.paper.specs.Common.{is}
@@ -13,7 +13,7 @@ use Rattle.paper.specs.Page.{Field}
 use Rattle.paper.specs.Entries.{valueAt}
 use Rattle.paper.specs.Rules.{descriptorsOf}
 use Rattle.paper.specs.Table.{everyWord, setSize, padded, withDomain}
-use Rattle.file_fields.specs.Fields.{between, nextAt, valueIn}
+use Rattle.file_fields.specs.Fields.{placeIn, between, nextAt, valueIn}
 use Rattle.file_words.specs.Words.{wordsIn}
 
 -- words written over those from number i on, one behind the other
@@ -39,6 +39,15 @@ contextIn t list words starts place from to =
     (valueAt (uidIn place) (between t list from to))
     (valueAt (gidIn place) (between t list from to))
     (valueAt (namespaceIn place) (between t list from to))
+
+-- a place is that of a key of the context at another
+abbrev pub isKey : ℕ → ℕ → Bool
+isKey place p = ltb place p && leb p (namespaceIn place)
+
+-- the number of the next field at such a key among k fields from number i on; where there is none, the number behind them
+unfoldable pub nextKey : List ℕ → ℕ → ℕ → ℕ → ℕ
+nextKey list place i zero = i
+nextKey list place i (suc k) = cond (isKey place (placeIn list i)) i (nextKey list place (i + 1) k)
 
 -- ---- grants
 

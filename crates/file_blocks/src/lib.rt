@@ -1,6 +1,7 @@
 // The words of an entry and of a descriptor, written into the part of the table that holds them. Every part is zero before.
 use file_fields::descriptors_of;
 use file_fields::next_at;
+use file_fields::place_of;
 use file_fields::value_at;
 use file_fields::value_of;
 use file_fields::values;
@@ -29,7 +30,7 @@ ghost use Rattle.file_index.specs.Words.{namesAt, nameSize};
 ghost use Rattle.file_index.specs.Buckets.{numbersIn};
 ghost use Rattle.file_index.specs.Maps.{Mapped};
 ghost use Rattle.file_words.specs.Words.{numbersOf, Worded};
-ghost use Rattle.file_blocks.specs.Written.{putFrom, patternIn, contextOfWords, contextIn, countsBy, withWord, withWords, everyIn, grantIn};
+ghost use Rattle.file_blocks.specs.Written.{putFrom, patternIn, contextOfWords, contextIn, isKey, nextKey, countsBy, withWord, withWords, everyIn, grantIn};
 
 // The words go over those at the front.
 fn copy_words(s: &[u16], out: &mut [u16])
@@ -73,7 +74,7 @@ fn write_keys(
 }
 
 // The context at a place, among the fields from one number up to another.
-fn write_context(
+fn write_found(
     t: &[u8],
     list: &[usize],
     words: &[u16],
@@ -93,6 +94,52 @@ fn write_context(
     let namespace = value_at(t, list, place + rows::NAMESPACE, from, to, b"all", b"[]");
     let i = next_at(list, place + rows::CALL_CONTEXT, from, to);
     write_keys(words, starts, i, to, uid, gid, namespace, out);
+}
+
+fn is_key(place: usize, p: usize) -> bool
+    requires { ⌜ IsContext place ⌝ }
+    ensures { λ r. ⌜ r ≡ isKey place p ⌝ }
+{
+    (place < p) & (p <= place + rows::NAMESPACE)
+}
+
+// The number of the next field at a key of the context at a place; where there is none, the other number.
+fn next_key(list: &[usize], place: usize, from: usize, to: usize) -> usize
+    requires { ⌜ (fieldSize * to ≤ length (now list)) × IsContext place ⌝ }
+    ensures { λ r. ⌜ r ≡ nextKey (now (list .entry)) place from (to - from) ⌝ }
+{
+    let mut i = from;
+    while i < to {
+        if is_key(place, place_of(list, i)) {
+            return i;
+        }
+        i += 1;
+    }
+    i
+}
+
+// The same: most contexts have no key, and one is looked for first.
+fn write_context(
+    t: &[u8],
+    list: &[usize],
+    words: &[u16],
+    starts: &[usize],
+    place: usize,
+    from: usize,
+    to: usize,
+    out: &mut [u16],
+)
+    requires { ⌜ (fieldSize * to ≤ length (now list)) × (to < length (now starts)) × IsContext place ⌝ }
+    requires { ⌜ length (patternIn (now words) (now starts) (nextAt (now list) (callContextIn place) from (to - from)) to) ≤ mostElements ⌝ }
+    requires { ⌜ now out ≡ replicate contextSize 0 ⌝ }
+    ensures { λ _. ⌜ now (out .exit) ≡ contextIn (now (t .entry)) (now (list .entry)) (now (words .entry)) (now (starts .entry)) place from to ⌝ }
+{
+    let first = next_key(list, place, from, to);
+    if to <= first {
+        out[0] = 1;
+        return;
+    }
+    write_found(t, list, words, starts, place, first, to, out);
 }
 
 // Puts the domain with this number into a set, if there is one among n.

@@ -2,7 +2,7 @@
 use mathlib.Core.Path.{_≡_, refl, sym, ap, _∙_}
 use mathlib.Core.Bool.{Bool, true, false, _&&_}
 use mathlib.Core.List.{List}
-use Prim.Native.Nat.{ℕ, _+_, _*_, _<_}
+use Prim.Native.Nat.{ℕ, _+_, _*_, _%_, _<_}
 use native.Mathlib.Omega.{arith}
 use lib.Dec.{eqb}
 use lib.ListN.{getD}
@@ -62,7 +62,7 @@ principal-is a b s p u g n e f h k l = rw (e, f, h, k, l) refl
 
 pub principal-hash-is : (entry : List Field) (s p u g n : ℕ)
     → s ≡ hashAt subjectOfEntry entry → p ≡ hashAt (callContextIn executionContext) entry → u ≡ sortAt (uidIn executionContext) entry → g ≡ sortAt (gidIn executionContext) entry
-    → n ≡ sortAt (namespaceIn executionContext) entry → 4 * (4 * (4 * (s + p) + u) + g) + n ≡ principalHash entry
+    → n ≡ sortAt (namespaceIn executionContext) entry → (4 * (4 * (4 * (s + p) + u) + g) + n) % 4294967296 ≡ principalHash entry
 unfolding principalHash
 principal-hash-is entry s p u g n e f h k l = rw (e, f, h, k, l) refl
 

@@ -1,6 +1,6 @@
 -- 11: the entries that were passed stay as they are when one more is noted, and a twin among them is a twin of the entry noted last.
-use mathlib.Core.Path.{_≡_, refl, ap, _∙_}
-use mathlib.Core.Bool.{Bool, true, false, cond, _||_}
+use mathlib.Core.Path.{_≡_, refl, sym, ap, _∙_}
+use mathlib.Core.Bool.{Bool, true, false, cond, not, _&&_, _||_}
 use mathlib.Core.Logic.{⊎-elim}
 use mathlib.Core.List.{List, [], _∷_}
 use Prim.Native.Nat.{ℕ, zero, suc, _+_, _-_, _*_, _<_, _≤_}
@@ -8,18 +8,24 @@ use native.Mathlib.Numerals.{add-one}
 use native.Mathlib.Omega.{arith}
 use mir.Syntax.{w64}
 use mir.Val.{Fits}
+use lib.Dec.{eqb}
 use lib.ListN.{length, getD, set, length-set}
 use lib.Seq.{getD-set-same, getD-set-other}
-use Rattle.paper.specs.Common.{anyOf}
+use borrow.Author.Tests.{eqb-false, not-true}
+use Rattle.paper.specs.Common.{anyOf, upTo}
 use Rattle.paper.specs.Limits.{mostEntries}
 use Rattle.paper.specs.Listing.{principal}
 use Rattle.paper.specs.Page.{Field}
 use Rattle.paper.specs.Entries.{entriesOf}
 use Rattle.paper.specs.Rules.{samePrincipal, twinAfter, twinPrincipal}
-use Rattle.laws.proofs.Tests.{same-or-not}
+use Rattle.laws.proofs.Tests.{same-or-not, both-left, both-right}
 use Rattle.file_fields.specs.Fields.{fieldSize, lineIn, between, nextAt}
 use Rattle.file_fields.proofs.Entries.{entries-first, entries-more, entries-none, entry-line, entry-room}
-use Rattle.file_entries.specs.Principals.{startsSize, principalHash, entryIn, entriesBelow, Hashed, AllHashed}
+use Rattle.file_entries.specs.Principals.{startsSize, principalHash, isOtherHash, entryIn, entriesBelow, Hashed, AllHashed}
+use Rattle.file_entries.proofs.Principals.{other-hash}
+
+not-equal : (a b : ℕ) → not (eqb a b) ≡ true → a ≡ b → ⊥
+not-equal a b h = eqb-false a b (not-true (eqb a b) h)
 
 -- ---- among the entries below one
 
@@ -35,6 +41,9 @@ module _ (t list starts hashes : List ℕ) where
   module _ (k : ℕ) (all : AllHashed t list starts hashes (k + 1)) where
     pub own-hashed : Hashed t list starts hashes k
     own-hashed = all-at (k + 1) k (omega arith) all
+
+    pub hash-room : k < length hashes
+    hash-room = own-hashed .room
 
     pub other-hashed : (j : ℕ) → 0 < j → j ≤ k → Hashed t list starts hashes (j - 1)
     other-hashed j h l = all-at (k + 1) (j - 1) (omega arith) all
@@ -71,6 +80,29 @@ module _ (t list starts hashes : List ℕ) where
     pub twin-nowhere : j ≤ 0 → false ≡ whole
     unfolding anyOf
     twin-nowhere h = rw (below-none j h) at inv
+
+-- ---- by hashes alone
+
+module _ (hashes : List ℕ) (k : ℕ) where
+  pub hash-tested : (j : ℕ) (new : Bool) → new ≡ upTo (isOtherHash hashes k) j → (new && isOtherHash hashes k j) ≡ upTo (isOtherHash hashes k) (j + 1)
+  unfolding upTo
+  hash-tested j new e = rw (e, add-one)
+
+  pub hashes-tested : (j : ℕ) (new : Bool) → k ≤ j → j ≤ k → new ≡ upTo (isOtherHash hashes k) j → new ≡ upTo (isOtherHash hashes k) k
+  hashes-tested j new h l e = let i : j ≡ k = omega arith in rw i at e
+
+  -- entries with other hashes have other principals
+  module _ (t list starts : List ℕ) (all : AllHashed t list starts hashes (k + 1)) where
+    none-alike : (j : ℕ) → j ≤ k → upTo (isOtherHash hashes k) j ≡ true → anyOf (samePrincipal (entryIn t list starts k)) (entriesBelow t list starts j) ≡ false
+    unfolding upTo anyOf entriesBelow
+    none-alike zero l h = refl
+    none-alike (suc j) l h =
+        let other : getD hashes k 0 ≡ getD hashes j 0 → ⊥ = λ e. not-equal (getD hashes j 0) (getD hashes k 0) (both-right (upTo (isOtherHash hashes k) j) _ h) (sym e) in
+        let differs = other-hash t list starts hashes k j (all-at t list starts hashes (k + 1) k (omega arith) all) (all-at t list starts hashes (k + 1) j (omega arith) all) other in
+        rw (← differs) (none-alike j (omega arith) (both-left _ _ h))
+
+    pub no-twin : (r : Bool) → r ≡ upTo (isOtherHash hashes k) k → r ≡ true → false ≡ anyOf (samePrincipal (entryIn t list starts k)) (entriesBelow t list starts k)
+    no-twin r e h = sym (none-alike k (omega arith) (sym e ∙ h))
 
 -- ---- one more is noted
 

@@ -57,6 +57,17 @@ pub any-key : (entry : List Field) (f : Field) (a b c : Bool) → a ≡ isUnboun
 unfolding isUnbound keyIn
 any-key entry f a b c p q r = rw (p, q, r) refl
 
+-- the keys of object contexts stand behind the first such context
+module _ (t list : List ℕ) (i p : ℕ) (entry : List Field) (e : p ≡ placeIn list i) (h : p < objectContextIn canRead) where
+  before-key : (key : ℕ) → false ≡ isUnboundKey (keyIn key) entry (fieldAt t list i)
+  before-key key =
+      let none : false ≡ (eqb p (objectContextIn canRead + key) || eqb p (objectContextIn canWrite + key)) =
+      rw (ne-eqb p (objectContextIn canRead + key) (λ q. omega arith), ne-eqb p (objectContextIn canWrite + key) (λ q. omega arith)) refl in
+      no-key t list key i entry false (none ∙ object-key list key i p e) refl
+
+  pub before-keys : false ≡ isUnbound entry (fieldAt t list i)
+  before-keys = any-key entry (fieldAt t list i) false false false (before-key 2) (before-key 3) (before-key 4)
+
 -- ---- the smallest line
 
 none-earlier : (a : ℕ) → earlier 0 a ≡ a

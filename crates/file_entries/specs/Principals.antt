@@ -1,14 +1,16 @@
 -- Principals by number: the hash of each, and the entries that were passed, each with its hash.
-use Prim.Native.Nat.{ℕ, zero, suc, _+_, _*_, _<_, _≤_}
+use Prim.Native.Nat.{ℕ, zero, suc, _+_, _*_, _%_, _<_, _≤_}
 use mathlib.Core.Path.{_≡_}
 use mathlib.Core.List.{List, [], _∷_}
+use mathlib.Core.Bool.{Bool, not}
+use lib.Dec.{eqb}
 use lib.ListN.{length, getD}
 use Rattle.paper.specs.Listing.{subjectOfEntry, executionContext, callContextIn, uidIn, gidIn, namespaceIn}
 use Rattle.paper.specs.Scalars.{sortNumber, sortOf}
 use Rattle.paper.specs.Page.{Field}
 use Rattle.paper.specs.Entries.{valueAt}
 use Rattle.file_fields.specs.Fields.{fieldSize, between}
-use Rattle.file_index.specs.Buckets.{multiplier, hashOf}
+use Rattle.file_index.specs.Buckets.{multiplier, hashes, hashOf}
 
 -- there are four sorts
 abbrev pub sorts : ℕ
@@ -25,11 +27,16 @@ sortAt place entry = sortNumber (sortOf (valueAt place entry))
 -- a number that equal principals have in common, and others hardly ever
 unfoldable pub principalHash : List Field → ℕ
 principalHash entry =
-    sorts
+    (sorts
     * (sorts
     * (sorts * (hashAt subjectOfEntry entry + hashAt (callContextIn executionContext) entry) + sortAt (uidIn executionContext) entry)
     + sortAt (gidIn executionContext) entry)
-    + sortAt (namespaceIn executionContext) entry
+    + sortAt (namespaceIn executionContext) entry)
+    % hashes
+
+-- the hash of entry j is not that of entry k
+abbrev pub isOtherHash : List ℕ → ℕ → ℕ → Bool
+isOtherHash hashes k j = not (eqb (getD hashes j 0) (getD hashes k 0))
 
 -- room for the starts of the entries, and for the end of the last
 abbrev pub startsSize : ℕ

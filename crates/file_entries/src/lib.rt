@@ -5,7 +5,7 @@ ghost use mathlib.Core.Path.{_≡_};
 ghost use Prim.Native.Nat.{_+_, _*_, _<_, _≤_};
 ghost use lib.Dec.{eqb};
 ghost use lib.ListN.{length};
-ghost use Rattle.paper.specs.Common.{bytes, anyOf, same};
+ghost use Rattle.paper.specs.Common.{bytes, anyOf, same, upTo};
 ghost use Rattle.paper.specs.Limits.{mostEntries};
 ghost use Rattle.paper.specs.Listing.{executionContext, contextPlaces};
 ghost use Rattle.paper.specs.Scalars.{isVariable};
@@ -14,9 +14,12 @@ ghost use Rattle.paper.specs.Rules.{firstWith, inObjectContexts, isUnboundKey, 
 ghost use Rattle.file_fields.specs.Fields.{fieldSize, placeIn, valueIn, fieldAt, between};
 ghost use Rattle.file_index.specs.Buckets.{hashes};
 ghost use Rattle.file_entries.specs.Keys.{keyIn};
-ghost use Rattle.file_entries.specs.Principals.{sorts, hashAt, sortAt, principalHash, entryIn, entriesBelow, Hashed, AllHashed};
+ghost use Rattle.file_entries.specs.Principals.{sorts, hashAt, sortAt, principalHash, isOtherHash, entryIn, entriesBelow, Hashed, AllHashed};
 
 const SORTS: usize = 4;
+
+// Thirty-two bits of a hash are kept.
+const HASHES: usize = 4294967296;
 
 // Each entry has a start, and the last an end.
 const STARTS: usize = limit::ENTRIES + 1;
@@ -66,11 +69,15 @@ fn is_unbound_key(t: &[u8], list: &[usize], key: usize, i: usize, from: usize, t
     !is_own(t, list, rows::EXECUTION_CONTEXT + key, i, from, to)
 }
 
+// Most fields stand at no key of an object context: they are told by their place alone.
 fn is_unbound(t: &[u8], list: &[usize], i: usize, from: usize, to: usize) -> bool
     requires { ⌜ fieldSize * (i + 1) ≤ length (now list) ⌝ }
     requires { ⌜ fieldSize * to ≤ length (now list) ⌝ }
     ensures { λ r. ⌜ r ≡ isUnbound (between (now (t .entry)) (now (list .entry)) from to) (fieldAt (now (t .entry)) (now (list .entry)) i) ⌝ }
 {
+    if file_fields::place_of(list, i) < rows::READ_CONTEXT {
+        return false;
+    }
     is_unbound_key(t, list, rows::UID, i, from, to)
         | is_unbound_key(t, list, rows::GID, i, from, to)
         | is_unbound_key(t, list, rows::NAMESPACE, i, from, to)
@@ -132,7 +139,7 @@ fn sort_at(t: &[u8], list: &[usize], place: usize, from: usize, to: usize) -> us
 }
 
 // A number that equal principals have in common.
-fn principal_hash(t: &[u8], list: &[usize], from: usize, to: usize) -> usize
+fn principal_hash(t: &[u8], list: &[usize], from: usize, to: usize) -> u32
     requires { ⌜ fieldSize * to ≤ length (now list) ⌝ }
     ensures { λ r. ⌜ r ≡ principalHash (between (now (t .entry)) (now (list .entry)) from to) ⌝ }
 {
@@ -141,7 +148,8 @@ fn principal_hash(t: &[u8], list: &[usize], from: usize, to: usize) -> usize
     let uid = sort_at(t, list, rows::EXECUTION_UID, from, to);
     let gid = sort_at(t, list, rows::EXECUTION_GID, from, to);
     let namespace = sort_at(t, list, rows::EXECUTION_NAMESPACE, from, to);
-    SORTS * (SORTS * (SORTS * (subject + pattern) + uid) + gid) + namespace
+    let hash = SORTS * (SORTS * (SORTS * (subject + pattern) + uid) + gid) + namespace;
+    (hash % HASHES) as u32
 }
 
 fn same_value<'a>(
@@ -212,14 +220,7 @@ fn same_principal(
 }
 
 // Entries a and b have the same principal. Hashes are compared first since they nearly always tell.
-fn are_twins(
-    t: &[u8],
-    list: &[usize],
-    starts: &[usize],
-    hashes: &[usize],
-    a: usize,
-    b: usize,
-) -> bool
+fn are_twins(t: &[u8], list: &[usize], starts: &[usize], hashes: &[u32], a: usize, b: usize) -> bool
     requires { ⌜ Hashed (now t) (now list) (now starts) (now hashes) a ⌝ }
     requires { ⌜ Hashed (now t) (now list) (now starts) (now hashes) b ⌝ }
     ensures { λ r. ⌜ r ≡ samePrincipal (entryIn (now (t .entry)) (now (list .entry)) (now (starts .entry)) a) (entryIn (now (t .entry)) (now (list .entry)) (now (starts .entry)) b) ⌝ }
@@ -232,11 +233,29 @@ fn are_twins(
     same_principal(t, list, starts[a], to, starts[b], end)
 }
 
+// None of the first k hashes is that of entry k. The loop has no exit, so that it takes many at a time.
+fn is_new_hash(hashes: &[u32], k: usize) -> bool
+    requires { ⌜ k < length (now hashes) ⌝ }
+    ensures { λ r. ⌜ r ≡ upTo (isOtherHash (now (hashes .entry)) k) k ⌝ }
+{
+    let hash = hashes[k];
+    let mut new = true;
+    let mut j: usize = 0;
+    while j < k {
+        new = new & (hashes[j] != hash);
+        j += 1;
+    }
+    new
+}
+
 // Entry k has the principal of one before it.
-fn has_twin(t: &[u8], list: &[usize], starts: &[usize], hashes: &[usize], k: usize) -> bool
+fn has_twin(t: &[u8], list: &[usize], starts: &[usize], hashes: &[u32], k: usize) -> bool
     requires { ⌜ AllHashed (now t) (now list) (now starts) (now hashes) (k + 1) ⌝ }
     ensures { λ r. ⌜ r ≡ anyOf (samePrincipal (entryIn (now (t .entry)) (now (list .entry)) (now (starts .entry)) k)) (entriesBelow (now (t .entry)) (now (list .entry)) (now (starts .entry)) k) ⌝ }
 {
+    if is_new_hash(hashes, k) {
+        return false;
+    }
     let mut j = k;
     while 0 < j {
         j -= 1;
@@ -254,7 +273,7 @@ pub fn twin_line(t: &[u8], list: &[usize], n: usize) -> usize
     ensures { λ r. ⌜ r ≡ twinPrincipal (between (now (t .entry)) (now (list .entry)) 0 n) ⌝ }
 {
     let mut starts = [0usize; STARTS];
-    let mut hashes = [0usize; limit::ENTRIES];
+    let mut hashes = [0u32; limit::ENTRIES];
     let mut k: usize = 0;
     let mut from = file_fields::next_at(list, rows::PRINCIPAL, 0, n);
     starts[0] = from;

@@ -7,3 +7,4 @@ pub mod Valued
 pub mod Accesses
 pub mod Walking
 pub mod Places
+pub mod Maps

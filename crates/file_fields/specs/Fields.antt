@@ -2,10 +2,11 @@
 use Prim.Native.Nat.{ℕ, zero, suc, _+_, _-_, _*_}
 use mathlib.Core.List.{List, [], _∷_, map}
 use mathlib.Core.Bool.{Bool, cond, not, _||_}
-use lib.Dec.{eqb}
+use lib.Dec.{eqb, ltb}
 use lib.ListN.{getD, take, drop, set}
 use Rattle.paper.specs.Common.{isEmpty, countUp}
 use Rattle.paper.specs.Lists.{bracketed, inside, spaced}
+use Rattle.paper.specs.Listing.{principal}
 use Rattle.paper.specs.Page.{Field}
 use Rattle.paper.specs.Entries.{isAt}
 
@@ -51,6 +52,11 @@ withField list i line place start end =
 unfoldable pub nextAt : List ℕ → ℕ → ℕ → ℕ → ℕ
 nextAt list place i zero = i
 nextAt list place i (suc k) = cond (eqb (placeIn list i) place) i (nextAt list place (i + 1) k)
+
+-- the number behind the last of the first n fields that stands in a map: places of maps are below that of a `principal`
+unfoldable pub mapsEnd : List ℕ → ℕ → ℕ
+mapsEnd list zero = 0
+mapsEnd list (suc n) = cond (ltb (placeIn list n) principal) (suc n) (mapsEnd list n)
 
 -- one where field i stands at a place
 abbrev pub oneIn : List ℕ → ℕ → ℕ → ℕ

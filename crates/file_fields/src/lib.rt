@@ -15,7 +15,7 @@ ghost use Rattle.paper.specs.Page.{pageOf};
 ghost use Rattle.paper.specs.Entries.{callContexts};
 ghost use Rattle.paper.specs.Rules.{earlier, descriptorsOf};
 ghost use Rattle.paper.specs.Promises.{textPage};
-ghost use Rattle.file_fields.specs.Fields.{fieldSize, placeIn, lineIn, startIn, valueIn, between, withField, nextAt, oneIn, countAt, valueOr};
+ghost use Rattle.file_fields.specs.Fields.{fieldSize, placeIn, lineIn, startIn, valueIn, between, withField, nextAt, mapsEnd, oneIn, countAt, valueOr};
 ghost use Rattle.file_fields.specs.Places.{IsAccess};
 ghost use Rattle.file_fields.specs.Listed.{mostFields, foundIn, Holds};
 
@@ -147,6 +147,21 @@ pub fn next_at(list: &[usize], place: usize, from: usize, to: usize) -> usize
         i += 1;
     }
     i
+}
+
+// The number behind the last field that stands in a map.
+pub fn maps_end(list: &[usize], n: usize) -> usize
+    requires { ⌜ fieldSize * n ≤ length (now list) ⌝ }
+    ensures { λ r. ⌜ r ≡ mapsEnd (now (list .entry)) n ⌝ }
+{
+    let mut i = n;
+    while 0 < i {
+        if place_of(list, i - 1) < rows::PRINCIPAL {
+            return i;
+        }
+        i -= 1;
+    }
+    0
 }
 
 fn one_at(list: &[usize], place: usize, i: usize) -> usize

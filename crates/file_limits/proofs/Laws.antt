@@ -2,23 +2,25 @@
 use mathlib.Core.Path.{_≡_, refl, _∙_}
 use mathlib.Core.Bool.{Bool, true, false, cond}
 use mathlib.Core.Logic.{_⊎_, inl, inr}
-use mathlib.Core.List.{List}
+use mathlib.Core.List.{List, [], _∷_, _++_}
 use Prim.Native.Nat.{ℕ, _+_, _-_, _*_, _^_, _<_, _≤_}
 use native.Mathlib.Omega.{arith}
 use mir.Syntax.{w64}
 use mir.Val.{Fits}
 use lib.Dec.{eqb, ltb}
 use lib.ListN.{length}
-use borrow.Author.Tests.{eq-eqb, ne-eqb, lt-ltb, le-ltb}
+use borrow.Author.Tests.{eq-eqb, ne-eqb, lt-ltb, le-ltb, ltb-false}
 use Rattle.paper.specs.Common.{anyOf}
-use Rattle.paper.specs.Listing.{principal, canRead, canWrite}
+use Rattle.paper.specs.Limits.{mostDomains, mostMembers}
+use Rattle.paper.specs.Listing.{objectName, objectMembers, subjectName, subjectMembers, principal, canRead, canWrite}
 use Rattle.paper.specs.Lists.{elements}
 use Rattle.paper.specs.Page.{Field}
 use Rattle.paper.specs.Entries.{callContexts, isAtOne, entriesOf, lineOfEntry}
 use Rattle.paper.specs.Rules.{earlier, earliest, firstWith, passing, oneAt, membersAt, longPattern, descriptorsOf, descriptorsIn, overLimit}
-use Rattle.file_fields.specs.Fields.{fieldSize, placeIn, lineIn, valueIn, fieldAt, between, nextAt}
+use Rattle.file_fields.specs.Fields.{fieldSize, placeIn, lineIn, valueIn, fieldAt, between, nextAt, mapsEnd}
 use Rattle.file_fields.proofs.Between.{between-more, between-none, value-short}
 use Rattle.file_fields.proofs.Entries.{entries-first, entry-room, entry-line, entries-more, entries-none}
+use Rattle.file_fields.proofs.Maps.{as-in-maps}
 use Rattle.file_limits.specs.Counts.{weighed, mapLine}
 use Rattle.file_limits.specs.declared.Count.{Count}
 use Rattle.file_limits.specs.declared.Count.the-variants.{Fields, Members}
@@ -123,16 +125,58 @@ descriptors-fit list from n to sum w h q a b d l = omega (arith, entry-room list
 
 -- ---- all of them
 
-module _ (fs : List Field) where
-  pub map-line : (a b d e after w x y z : ℕ)
-      → a ≡ passing (λ f. f .line) (weighed Fields 2) 128 0 fs
-      → b ≡ passing (λ f. f .line) (weighed Fields 5) 128 0 fs
-      → d ≡ passing (λ f. f .line) (weighed Members 3) 1024 0 fs
-      → e ≡ passing (λ f. f .line) (weighed Members 6) 1024 0 fs
-      → w ≡ earlier e after → x ≡ earlier d w → y ≡ earlier b x → z ≡ earlier a y → z ≡ mapLine fs after
-  unfolding mapLine
-  map-line a b d e after w x y z p q r s k l m n = n ∙ rw (m, l, k, p, q, r, s) refl
+-- a field that weighs nothing, put behind the others, passes no limit
+passing-blind : {A : Type 0} (line weight : A → ℕ) (most : ℕ) (f : A) → weight f ≡ 0 → (fs : List A) (k : ℕ) → k ≤ most
+    → passing line weight most k (fs ++ (f ∷ [])) ≡ passing line weight most k fs
+unfolding passing
+passing-blind line weight most f z [] k h = let e : k + weight f ≡ k = omega (arith, z) in rw (e, le-ltb most k h) refl
+passing-blind line weight most f z (x ∷ xs) k h = go (ltb most (k + weight x)) refl (passing-blind line weight most f z xs (k + weight x))
+  where
+    go : (b : Bool) → ltb most (k + weight x) ≡ b → (k + weight x ≤ most → passing line weight most (k + weight x) (xs ++ (f ∷ [])) ≡ passing line weight most (k + weight x) xs)
+        → cond b (line x) (passing line weight most (k + weight x) (xs ++ (f ∷ []))) ≡ cond b (line x) (passing line weight most (k + weight x) xs)
+    go true e on = refl
+    go false e on = on (ltb-false most (k + weight x) e)
 
+module _ (place : ℕ) (f : Field) (l : place < principal) (h : principal ≤ f .place) where
+  one-blind : oneAt place f ≡ 0
+  unfolding oneAt
+  one-blind = rw (ne-eqb (f .place) place (λ e. omega arith)) refl
+
+  members-blind : membersAt place f ≡ 0
+  unfolding membersAt
+  members-blind = rw (ne-eqb (f .place) place (λ e. omega arith)) refl
+
+maps-blind : (after : ℕ) (fs : List Field) (f : Field) → principal ≤ f .place → mapLine (fs ++ (f ∷ [])) after ≡ mapLine fs after
+unfolding mapLine
+maps-blind after fs f h =
+    rw (
+      passing-blind (λ f. f .line) (oneAt objectName) mostDomains f (one-blind objectName f (omega arith) h) fs 0 (omega arith),
+      passing-blind (λ f. f .line) (oneAt subjectName) mostDomains f (one-blind subjectName f (omega arith) h) fs 0 (omega arith),
+      passing-blind (λ f. f .line) (membersAt objectMembers) mostMembers f (members-blind objectMembers f (omega arith) h) fs 0 (omega arith),
+      passing-blind (λ f. f .line) (membersAt subjectMembers) mostMembers f (members-blind subjectMembers f (omega arith) h) fs 0 (omega arith),
+    )
+    refl
+
+maps-put : (fs : List Field) (a b d e after w x y z : ℕ)
+    → a ≡ passing (λ f. f .line) (weighed Fields 2) 128 0 fs
+    → b ≡ passing (λ f. f .line) (weighed Fields 5) 128 0 fs
+    → d ≡ passing (λ f. f .line) (weighed Members 3) 1024 0 fs
+    → e ≡ passing (λ f. f .line) (weighed Members 6) 1024 0 fs
+    → w ≡ earlier e after → x ≡ earlier d w → y ≡ earlier b x → z ≡ earlier a y → z ≡ mapLine fs after
+unfolding mapLine
+maps-put fs a b d e after w x y z p q r s k l m n = n ∙ rw (m, l, k, p, q, r, s) refl
+
+pub map-line : (t list : List ℕ) (n end : ℕ) → end ≡ mapsEnd list n → (a b d e after w x y z : ℕ)
+    → a ≡ passing (λ f. f .line) (weighed Fields 2) 128 0 (between t list 0 end)
+    → b ≡ passing (λ f. f .line) (weighed Fields 5) 128 0 (between t list 0 end)
+    → d ≡ passing (λ f. f .line) (weighed Members 3) 1024 0 (between t list 0 end)
+    → e ≡ passing (λ f. f .line) (weighed Members 6) 1024 0 (between t list 0 end)
+    → w ≡ earlier e after → x ≡ earlier d w → y ≡ earlier b x → z ≡ earlier a y → z ≡ mapLine (between t list 0 n) after
+map-line t list n end i a b d e after w x y z p q r s k l m o =
+    maps-put (between t list 0 end) a b d e after w x y z p q r s k l m o
+    ∙ rw i (as-in-maps t list (λ fs. mapLine fs after) (maps-blind after) n)
+
+module _ (fs : List Field) where
   pub all-lines : (a b d w x y z : ℕ)
       → a ≡ passing (λ f. f .line) (weighed Fields 8) 128 0 fs
       → b ≡ firstWith longPattern fs

@@ -3,6 +3,7 @@ use file_fields::descriptors_of;
 use file_fields::earlier;
 use file_fields::is_call_context;
 use file_fields::line_of;
+use file_fields::maps_end;
 use file_fields::next_at;
 use file_fields::place_of;
 use file_fields::value_of;
@@ -115,16 +116,24 @@ fn descriptors_line(t: &[u8], list: &[usize], n: usize) -> usize
     NO_LINE
 }
 
-// The domains and members of both maps.
+// The domains and members of both maps: fields behind them are not asked.
 fn map_line(t: &[u8], list: &[usize], n: usize, after: usize) -> usize
     requires { ⌜ fieldSize * n ≤ length (now list) ⌝ }
     ensures { λ r. ⌜ r ≡ mapLine (between (now (t .entry)) (now (list .entry)) 0 n) after ⌝ }
 {
-    let objects = passing_line(t, list, n, Count::Fields, rows::OBJECT_NAME, limit::DOMAINS);
+    let end = maps_end(list, n);
+    let objects = passing_line(
+        t,
+        list,
+        end,
+        Count::Fields,
+        rows::OBJECT_NAME,
+        limit::DOMAINS,
+    );
     let subjects = passing_line(
         t,
         list,
-        n,
+        end,
         Count::Fields,
         rows::SUBJECT_NAME,
         limit::DOMAINS,
@@ -132,7 +141,7 @@ fn map_line(t: &[u8], list: &[usize], n: usize, after: usize) -> usize
     let object_members = passing_line(
         t,
         list,
-        n,
+        end,
         Count::Members,
         rows::OBJECT_MEMBERS,
         limit::MEMBERS,
@@ -140,7 +149,7 @@ fn map_line(t: &[u8], list: &[usize], n: usize, after: usize) -> usize
     let subject_members = passing_line(
         t,
         list,
-        n,
+        end,
         Count::Members,
         rows::SUBJECT_MEMBERS,
         limit::MEMBERS,

@@ -24,18 +24,18 @@ use Rattle.text_lists.specs.declared.Element.the-variants.{Found, NoneLeft}
 use Rattle.text_lists.proofs.Walk.{spaced-at-first, left-first, left-none, left-found, found-at, found-to}
 use Rattle.file_fields.specs.Fields.{fieldSize, placeIn, lineIn, startIn, endIn, valueIn, fieldAt, between, wellSpaced}
 use Rattle.file_fields.specs.Values.{insideOf}
-use Rattle.file_fields.proofs.Between.{between-more, between-none, each-field, names-more, names-fewer, names-none}
+use Rattle.file_fields.proofs.Between.{between-more, each-field, names-more, names-split, names-fewer, names-none}
 use Rattle.file_fields.proofs.Valued.{inside-elements, inside-spaced}
 use Rattle.file_index.specs.Words.{namesAt, nameSize, nameAt, multiplierIn}
 use Rattle.file_index.specs.Buckets.{hashOf, wayEnd, placeNumber, Within, numbersIn, insertedAt, inserted, Index}
 use Rattle.file_index.proofs.Steps.{number-found, number-free, word-free}
 use Rattle.file_index.proofs.Known.{index-known, new-number, index-after}
-use Rattle.file_names.specs.Naming.{Sound, namedAt, named, namesTo, EnteredAs, IndexedAs}
+use Rattle.file_names.specs.Naming.{Sound, namedAt, named, namesTo, NamesEnd, EnteredAs, IndexedAs}
 use Rattle.file_names.specs.declared.indexes.Naming.{Naming}
 use Rattle.file_names.specs.declared.indexes.Naming.the-variants.{Domains, Members}
 use Rattle.file_names.specs.declared.indexes.Entered.{Entered}
 use Rattle.file_names.specs.declared.indexes.Entered.the-variants.{Now, Twice}
-use Rattle.file_names.proofs.Seen.{repeats-append, twice-known, one-new, none-repeated, repeated-here, repeated-on}
+use Rattle.file_names.proofs.Seen.{repeats-append, twice-known, one-new, none-repeated, nothing-repeated, repeated-here, repeated-on}
 
 -- ---- one name
 
@@ -290,12 +290,31 @@ module _ (t list ix : List ℕ) (i : ℕ) (naming : Naming) where
 
 -- ---- field by field
 
-module _ (t list : List ℕ) (n i : ℕ) (sound : Sound t list n) (h : i < n) where
-  pub its-room : fieldSize * (i + 1) ≤ length list
-  its-room = omega (arith, sound .room)
+module _ (t list : List ℕ) (n i : ℕ) (sound : Sound t list n) where
+  module _ (h : i < n) where
+    pub its-room : fieldSize * (i + 1) ≤ length list
+    its-room = omega (arith, sound .room)
 
-  pub its-spacing : wellSpaced (fieldAt t list i) ≡ true
-  its-spacing = each-field t list wellSpaced n i (sound .spaced) h
+    pub its-spacing : wellSpaced (fieldAt t list i) ≡ true
+    its-spacing = each-field t list wellSpaced n i (sound .spaced) h
+
+  -- the same before the end of the names
+  module _ (names : Field → List (List ℕ)) (end : ℕ) (ends : NamesEnd names t list n end) (h : i < end) where
+    pub named-room : fieldSize * (i + 1) ≤ length list
+    named-room = its-room (omega (arith, ends .within))
+
+    pub named-spacing : wellSpaced (fieldAt t list i) ≡ true
+    named-spacing = its-spacing (omega (arith, ends .within))
+
+-- what field i names went in
+module _ (names : Field → List (List ℕ)) (t list : List ℕ) (i : ℕ) (ix : List ℕ) (r : Entered) (q : EnteredAs t ix (namesTo names t list i) (names (fieldAt t list i)) r)
+    (k : ℕ) (e : r ≡ Now k) where
+  went-in : (repeats (namesTo names t list i) (names (fieldAt t list i)) ≡ false) × Index t ix k (namesTo names t list i ++ names (fieldAt t list i))
+  unfolding EnteredAs
+  went-in = rw e at q
+
+  pub index-on : Index t ix k (namesTo names t list (i + 1))
+  index-on = rw (names-more t list names i) (went-in .1)
 
 module _ (names : Field → List (List ℕ)) (t list : List ℕ) (n : ℕ) where
   -- the line of what is left
@@ -308,13 +327,16 @@ module _ (names : Field → List (List ℕ)) (t list : List ℕ) (n : ℕ) where
   pub line-first : lineFrom 0 ≡ repeated names [] (between t list 0 n)
   line-first = ap (λ (l : List (List ℕ)). repeated names l (between t list 0 n)) (names-none t list names)
 
-  module _ (i : ℕ) (h : i < n) where
+  module _ (end : ℕ) (ends : NamesEnd names t list n end) (i : ℕ) (l : i < end) where
+    h : i < n
+    h = omega (arith, ends .within)
+
     pub field-room : (ix : List ℕ) (k l : ℕ) → Index t ix k (namesTo names t list i) → length ix ≡ l → namesAt + nameSize * length (namesTo names t list n) ≤ l
         → namesAt + nameSize * (k + length (names (fieldAt t list i))) ≤ length ix
     field-room ix k l index e room =
         let a : length (namesTo names t list (i + 1)) ≡ length (namesTo names t list i) + length (names (fieldAt t list i)) = ap length
         (names-more t list names i) ∙ length-append (namesTo names t list i) (names (fieldAt t list i)) in
-        omega (arith, index .count, names-fewer t list names (i + 1) n (omega arith))
+        omega (arith, index .count, names-fewer t list names (i + 1) n (omega (arith, h)))
 
     module _ (ix : List ℕ) (r : Entered) (q : EnteredAs t ix (namesTo names t list i) (names (fieldAt t list i)) r) where
       module _ (e : r ≡ Twice) where
@@ -326,39 +348,33 @@ module _ (names : Field → List (List ℕ)) (t list : List ℕ) (n : ℕ) where
         unfolding fieldAt
         twice-here = rw (between-more t list i n h) (repeated-here names (fieldAt t list i) (between t list (i + 1) n) (namesTo names t list i) again-named)
 
-        module _ (count line : ℕ) (l : line ≡ lineIn list i) (sound : Sound t list n) (inv : lineFrom i ≡ repeated names [] (between t list 0 n)) where
+        module _ (count line : ℕ) (g : line ≡ lineIn list i) (sound : Sound t list n) (inv : lineFrom i ≡ repeated names [] (between t list 0 n)) where
           a-line : line ≡ 0 → ⊥
           unfolding isNumbered fieldAt
           a-line z = omega (arith, leb-true 1 (lineIn list i) (each-field t list isNumbered n i (sound .numbered) h))
 
           pub told-twice : (old : List ℕ) → Index t old count (namesTo names t list i) → IndexedAs names t ix (between t list 0 n) (record { names = count; twice = line })
           told-twice old index = record {
-            line = l ∙ sym twice-here ∙ inv;
+            line = g ∙ sym twice-here ∙ inv;
             index = λ z. absurd (a-line z);
-            few = omega (arith, index .count, names-fewer t list names i n (omega arith));
+            few = omega (arith, index .count, names-fewer t list names i n (omega (arith, h)));
           }
 
       module _ (k : ℕ) (e : r ≡ Now k) where
-        went-in : (repeats (namesTo names t list i) (names (fieldAt t list i)) ≡ false) × Index t ix k (namesTo names t list i ++ names (fieldAt t list i))
-        unfolding EnteredAs
-        went-in = rw e at q
-
-        pub index-on : Index t ix k (namesTo names t list (i + 1))
-        index-on = rw (names-more t list names i) (went-in .1)
-
         pub line-on : lineFrom i ≡ repeated names [] (between t list 0 n) → lineFrom (i + 1) ≡ repeated names [] (between t list 0 n)
         line-on inv =
             rw (names-more t list names i)
-            (sym (repeated-on names (fieldAt t list i) (between t list (i + 1) n) (namesTo names t list i) (went-in .0)) ∙ (rw (between-more t list i n h) at inv))
+            (sym (repeated-on names (fieldAt t list i) (between t list (i + 1) n) (namesTo names t list i) (went-in names t list i ix r q k e .0)) ∙ (rw (between-more t list i n h) at inv))
 
-  pub told-all : (ix : List ℕ) (i count : ℕ) → n ≤ i → i ≤ n → Index t ix count (namesTo names t list i) → lineFrom i ≡ repeated names [] (between t list 0 n)
-      → IndexedAs names t ix (between t list 0 n) (record { names = count; twice = 0 })
-  unfolding repeated
-  told-all ix i count h l index inv =
-      let e : i ≡ n = omega arith in
-      let a : Index t ix count (namesTo names t list n) = rw e at index in
+  pub told-all : (end : ℕ) → NamesEnd names t list n end → (ix : List ℕ) (i count : ℕ) → end ≤ i → i ≤ end → Index t ix count (namesTo names t list i)
+      → lineFrom i ≡ repeated names [] (between t list 0 n) → IndexedAs names t ix (between t list 0 n) (record { names = count; twice = 0 })
+  told-all end ends ix i count h l index inv =
+      let e : i ≡ end = omega arith in
+      let all : namesTo names t list n ≡ namesTo names t list end =
+      names-split t list names end n (ends .within) ∙ rw (ends .rest) (append-nil (namesTo names t list end)) in
+      let a : Index t ix count (namesTo names t list n) = rw all (rw e at index) in
       record {
-        line = rw (between-none t list i n h) at inv;
+        line = sym (nothing-repeated names (between t list i n) (namesTo names t list i) (rw e (ends .rest))) ∙ inv;
         index = λ z. a;
         few = omega (arith, a .count);
       }

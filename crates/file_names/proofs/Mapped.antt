@@ -1,21 +1,25 @@
 -- The indexes of the maps: they have room for what the limits allow, and what rule 7 finds nowhere stands in no map twice.
-use mathlib.Core.Path.{_≡_, refl, sym, _∙_}
+use mathlib.Core.Path.{_≡_, refl, sym, ap, _∙_}
 use mathlib.Core.Bool.{Bool, true, false, cond}
-use mathlib.Core.List.{List, [], _∷_, flatMap}
-use Prim.Native.Nat.{ℕ, _+_, _*_, _≤_}
+use mathlib.Core.List.{List, [], _∷_, _++_, flatMap, append-nil}
+use Prim.Native.Nat.{ℕ, _+_, _*_, _<_, _≤_}
 use native.Mathlib.Omega.{arith}
 use lib.Dec.{eqb}
-use lib.ListN.{length, set, replicate, length-set, length-replicate}
-use borrow.Author.Tests.{eqb-true}
-use Rattle.paper.specs.Common.{allOf}
+use lib.ListN.{length, set, replicate, length-set, length-append, length-replicate}
+use borrow.Author.Tests.{eqb-true, ne-eqb}
+use Rattle.paper.specs.Common.{anyOf, allOf}
 use Rattle.paper.specs.Limits.{mostDomains, mostMembers}
-use Rattle.paper.specs.Listing.{objectName, objectMembers, subjectName, subjectMembers}
+use Rattle.paper.specs.Listing.{objectName, objectMembers, subjectName, subjectMembers, principal}
 use Rattle.paper.specs.Page.{Field}
+use Rattle.paper.specs.Entries.{isAtOne}
 use Rattle.paper.specs.Rules.{earlier, earliest, firstWith, repeated, domainNamed, membersNamed, repeatsInList, namedTwice, overLimit, domainsAt, identifiersAt}
 use Rattle.laws.proofs.Tests.{both-left, both-right}
+use Rattle.laws.proofs.Counting.{flatMap-append}
 use Rattle.laws_file.proofs.Scans.{earliest-none}
 use Rattle.laws_file.proofs.Kept.{Counted, counted}
-use Rattle.file_fields.specs.Fields.{between}
+use Rattle.file_fields.specs.Fields.{between, mapsEnd}
+use Rattle.file_fields.proofs.Between.{names-split}
+use Rattle.file_fields.proofs.Maps.{maps-within, as-in-maps}
 use Rattle.file_index.specs.Words.{namesAt, nameSize}
 use Rattle.file_index.specs.Buckets.{Index}
 use Rattle.file_index.specs.Maps as index
@@ -23,12 +27,16 @@ use Rattle.file_index.specs.Maps.{Maps}
 use Rattle.file_index.proofs.Known.{index-cleared}
 use Rattle.file_words.specs.Words.{numbersBy, numbersOf, Worded}
 use Rattle.file_words.proofs.Worded.{worded-known}
-use Rattle.file_names.specs.Naming.{Sound, namedAt, namesTo, IndexedAs}
+use Rattle.file_names.specs.Naming.{Sound, namedAt, namesTo, NamesEnd, IndexedAs}
 use Rattle.file_names.specs.Mapping.{Fresh, MapsTo, Distinct}
 use Rattle.file_names.specs.declared.indexes.Indexed.{Indexed}
 use Rattle.file_names.specs.declared.Names.{Names}
 use Rattle.file_names.proofs.Seen.{repeated-none, fewer-names}
 use Rattle.file_names.proofs.Namings.{named-both, domains-named, members-named, members-total, domains-total, domains-one, first-part, second-part}
+
+no-length : {A : Type 0} (xs : List A) → length xs ≡ 0 → xs ≡ []
+no-length [] h = refl
+no-length (x ∷ xs) h = absurd (omega arith)
 
 -- ---- a cleared index
 
@@ -37,6 +45,44 @@ cleared-length size m = length-set (replicate size 0) 0 m ∙ length-replicate s
 
 pub cleared : (t : List ℕ) (size m : ℕ) → Index t (set (replicate size 0) 0 m) 0 []
 cleared t size m = index-cleared t size m
+
+-- ---- the fields of the maps
+
+module _ (t list : List ℕ) (n end : ℕ) (e : end ≡ mapsEnd list n) where
+  names-end : (names : Field → List (List ℕ)) → ((f : Field) → principal ≤ f .place → names f ≡ []) → NamesEnd names t list n end
+  unfolding flatMap
+  names-end names none =
+      let within : end ≤ n = rw e (maps-within list n) in
+      let blind : (fs : List Field) (f : Field) → principal ≤ f .place → flatMap names (fs ++ (f ∷ [])) ≡ flatMap names fs =
+      λ fs f h. flatMap-append names fs (f ∷ []) ∙ rw (none f h) (append-nil (flatMap names fs)) in
+      let all : flatMap names (between t list 0 end) ≡ flatMap names (between t list 0 n) = rw e (as-in-maps t list (flatMap names) blind n) in
+      record {
+        within = within;
+        rest = no-length _ (omega (arith, ap length all, ap length (names-split t list names end n within), length-append (flatMap names (between t list 0 end)) (flatMap names (between t list end n))));
+      }
+
+  domains-end : (one other : ℕ) → one < principal → other < principal → NamesEnd (namedAt one other) t list n end
+  unfolding namedAt isAtOne anyOf
+  domains-end one other h l = names-end (namedAt one other) (λ f m. rw (ne-eqb (f .place) one (λ q. omega arith), ne-eqb (f .place) other (λ q. omega arith)) refl)
+
+  members-end : (place : ℕ) → place < principal → NamesEnd (membersNamed place) t list n end
+  unfolding membersNamed
+  members-end place h = names-end (membersNamed place) (λ f m. rw (ne-eqb (f .place) place (λ q. omega arith)) refl)
+
+  pub both-end : NamesEnd (namedAt 2 5) t list n end
+  both-end = domains-end 2 5 (omega arith) (omega arith)
+
+  pub object-end : NamesEnd (namedAt 2 2) t list n end
+  object-end = domains-end 2 2 (omega arith) (omega arith)
+
+  pub subject-end : NamesEnd (namedAt 5 5) t list n end
+  subject-end = domains-end 5 5 (omega arith) (omega arith)
+
+  pub objects-end : NamesEnd (membersNamed 3) t list n end
+  objects-end = members-end 3 (omega arith)
+
+  pub functions-end : NamesEnd (membersNamed 6) t list n end
+  functions-end = members-end 6 (omega arith)
 
 -- ---- room
 

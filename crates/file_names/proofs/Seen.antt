@@ -84,6 +84,18 @@ pub one-new : (seen : List (List ℕ)) (x : List ℕ) → among x seen ≡ false
 unfolding repeats
 one-new seen x h = rw h refl
 
+empty-front : {A : Type 0} (xs ys : List A) → xs ++ ys ≡ [] → xs ≡ []
+empty-front [] ys h = refl
+empty-front (x ∷ xs) ys h = cc
+
+-- fields that name nothing name nothing again
+pub nothing-repeated : (names : Field → List (List ℕ)) (fs : List Field) (seen : List (List ℕ)) → flatMap names fs ≡ [] → repeated names seen fs ≡ 0
+unfolding repeated repeats flatMap
+nothing-repeated names [] seen h = refl
+nothing-repeated names (f ∷ fs) seen h =
+    let e : names f ≡ [] = empty-front (names f) (flatMap names fs) h in
+    rw e (nothing-repeated names fs seen (rw e at h))
+
 pub none-repeated : (seen : List (List ℕ)) → repeats seen [] ≡ false
 unfolding repeats
 none-repeated seen = refl

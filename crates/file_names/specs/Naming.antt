@@ -40,6 +40,11 @@ named (Members place) = membersNamed place
 abbrev pub namesTo : (Field → List (List ℕ)) → List ℕ → List ℕ → ℕ → List (List ℕ)
 namesTo names t list i = flatMap names (between t list 0 i)
 
+-- the fields from number `end` on name nothing
+pub record NamesEnd (names : Field → List (List ℕ)) (t list : List ℕ) (n end : ℕ) : Type 0 where
+  pub within : end ≤ n
+  pub rest : flatMap names (between t list end n) ≡ []
+
 -- names put into an index of those seen: they are in, or one of them was there already
 unfoldable pub EnteredAs : List ℕ → List ℕ → List (List ℕ) → List (List ℕ) → Entered → Type 0
 EnteredAs t ix seen names (Now n) = (repeats seen names ≡ false) × Index t ix n (seen ++ names)

@@ -17,7 +17,7 @@ ghost use Rattle.paper.specs.Rules.{membersNamed};
 ghost use Rattle.file_fields.specs.Fields.{fieldSize, fieldAt, between, wellSpaced};
 ghost use Rattle.file_index.specs.Words.{namesAt, nameSize, multiplierIn};
 ghost use Rattle.file_index.specs.Buckets.{hashOf, numbersIn, inserted, Index};
-ghost use Rattle.file_names.specs.Naming.{Sound, namedAt, named, namesTo, EnteredAs, IndexedAs};
+ghost use Rattle.file_names.specs.Naming.{Sound, namedAt, named, namesTo, NamesEnd, EnteredAs, IndexedAs};
 
 // What a field names: a domain, where it stands at one of two places; the members of a list, where it stands at a place.
 pub enum Naming {
@@ -143,16 +143,25 @@ fn enter_field(
     }
 }
 
-fn index_all(t: &[u8], list: &[usize], n: usize, naming: Naming, ix: &mut [usize]) -> Indexed
+// What the fields name put into an index: none is asked from `end` on, where they name nothing.
+fn index_all(
+    t: &[u8],
+    list: &[usize],
+    n: usize,
+    end: usize,
+    naming: Naming,
+    ix: &mut [usize],
+) -> Indexed
     requires { ⌜ Sound (now t) (now list) n ⌝ }
     requires { ⌜ Index (now t) (now ix) 0 [] ⌝ }
     requires { ⌜ namesAt + nameSize * length (namesTo (named naming) (now t) (now list) n) ≤ length (now ix) ⌝ }
+    requires { ⌜ NamesEnd (named naming) (now t) (now list) n end ⌝ }
     ensures { λ r. ⌜ IndexedAs (named naming) (now (t .entry)) (now (ix .exit)) (between (now (t .entry)) (now (list .entry)) 0 n) r ⌝ }
     ensures { λ _. ⌜ length (now (ix .exit)) ≡ length (now (ix .entry)) ⌝ }
 {
     let mut names: usize = 0;
     let mut i: usize = 0;
-    while i < n {
+    while i < end {
         match enter_field(t, list, i, naming, ix, names) {
             Entered::Twice => {
                 return Indexed {
@@ -177,6 +186,7 @@ pub fn index_domains(
     t: &[u8],
     list: &[usize],
     n: usize,
+    end: usize,
     one: usize,
     other: usize,
     ix: &mut [usize],
@@ -184,19 +194,28 @@ pub fn index_domains(
     requires { ⌜ Sound (now t) (now list) n ⌝ }
     requires { ⌜ Index (now t) (now ix) 0 [] ⌝ }
     requires { ⌜ namesAt + nameSize * length (namesTo (namedAt one other) (now t) (now list) n) ≤ length (now ix) ⌝ }
+    requires { ⌜ NamesEnd (namedAt one other) (now t) (now list) n end ⌝ }
     ensures { λ r. ⌜ IndexedAs (namedAt one other) (now (t .entry)) (now (ix .exit)) (between (now (t .entry)) (now (list .entry)) 0 n) r ⌝ }
     ensures { λ _. ⌜ length (now (ix .exit)) ≡ length (now (ix .entry)) ⌝ }
 {
-    index_all(t, list, n, Naming::Domains { one, other }, ix)
+    index_all(t, list, n, end, Naming::Domains { one, other }, ix)
 }
 
 // The members of a map, by the place of its lists.
-pub fn index_members(t: &[u8], list: &[usize], n: usize, place: usize, ix: &mut [usize]) -> Indexed
+pub fn index_members(
+    t: &[u8],
+    list: &[usize],
+    n: usize,
+    end: usize,
+    place: usize,
+    ix: &mut [usize],
+) -> Indexed
     requires { ⌜ Sound (now t) (now list) n ⌝ }
     requires { ⌜ Index (now t) (now ix) 0 [] ⌝ }
     requires { ⌜ namesAt + nameSize * length (namesTo (membersNamed place) (now t) (now list) n) ≤ length (now ix) ⌝ }
+    requires { ⌜ NamesEnd (membersNamed place) (now t) (now list) n end ⌝ }
     ensures { λ r. ⌜ IndexedAs (membersNamed place) (now (t .entry)) (now (ix .exit)) (between (now (t .entry)) (now (list .entry)) 0 n) r ⌝ }
     ensures { λ _. ⌜ length (now (ix .exit)) ≡ length (now (ix .entry)) ⌝ }
 {
-    index_all(t, list, n, Naming::Members { place }, ix)
+    index_all(t, list, n, end, Naming::Members { place }, ix)
 }

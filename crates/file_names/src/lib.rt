@@ -7,6 +7,7 @@ use crate::indexes::index_domains;
 use crate::indexes::index_members;
 use crate::lists::lists_line;
 use file_fields::earlier;
+use file_fields::maps_end;
 use file_index::MULTIPLIER;
 use file_index::layout;
 use file_words::look_up;
@@ -20,7 +21,7 @@ ghost use Rattle.paper.specs.Limits.{mostDomains, mostMembers};
 ghost use Rattle.paper.specs.Text.{noLine};
 ghost use Rattle.paper.specs.Listing.{objectMembers};
 ghost use Rattle.paper.specs.Rules.{firstWith, repeated, domainNamed, membersNamed, repeatsInList, namedTwice, overLimit};
-ghost use Rattle.file_fields.specs.Fields.{between, bytesTo};
+ghost use Rattle.file_fields.specs.Fields.{between, bytesTo, mapsEnd};
 ghost use Rattle.file_index.specs.Words.{namesAt, nameSize};
 ghost use Rattle.file_index.specs.Maps.{Maps};
 ghost use Rattle.file_words.specs.Words.{numbersBy, numbersOf, Worded};
@@ -41,26 +42,36 @@ pub struct Names {
 }
 
 // The line of the first domain name that stands twice, over both maps.
-fn domains_line(t: &[u8], list: &[usize], n: usize) -> usize
+fn domains_line(t: &[u8], list: &[usize], n: usize, end: usize) -> usize
     requires { ⌜ Sound (now t) (now list) n ⌝ }
     requires { ⌜ overLimit (between (now t) (now list) 0 n) ≡ noLine ⌝ }
+    requires { ⌜ end ≡ mapsEnd (now list) n ⌝ }
     ensures { λ r. ⌜ r ≡ repeated domainNamed [] (between (now (t .entry)) (now (list .entry)) 0 n) ⌝ }
 {
     let mut ix = [0usize; DOMAINS_SIZE];
     ix[layout::MULTIPLIER_AT] = MULTIPLIER;
-    let found = index_domains(t, list, n, rows::OBJECT_NAME, rows::SUBJECT_NAME, &mut ix);
+    let found = index_domains(
+        t,
+        list,
+        n,
+        end,
+        rows::OBJECT_NAME,
+        rows::SUBJECT_NAME,
+        &mut ix,
+    );
     found.twice
 }
 
 // The line of the first object that stands twice.
-fn objects_line(t: &[u8], list: &[usize], n: usize) -> usize
+fn objects_line(t: &[u8], list: &[usize], n: usize, end: usize) -> usize
     requires { ⌜ Sound (now t) (now list) n ⌝ }
     requires { ⌜ overLimit (between (now t) (now list) 0 n) ≡ noLine ⌝ }
+    requires { ⌜ end ≡ mapsEnd (now list) n ⌝ }
     ensures { λ r. ⌜ r ≡ repeated (membersNamed objectMembers) [] (between (now (t .entry)) (now (list .entry)) 0 n) ⌝ }
 {
     let mut ix = [0usize; MEMBERS_SIZE];
     ix[layout::MULTIPLIER_AT] = MULTIPLIER;
-    let found = index_members(t, list, n, rows::OBJECT_MEMBERS, &mut ix);
+    let found = index_members(t, list, n, end, rows::OBJECT_MEMBERS, &mut ix);
     found.twice
 }
 
@@ -69,12 +80,14 @@ fn index_maps(
     t: &[u8],
     list: &[usize],
     n: usize,
+    end: usize,
     objects_ix: &mut [usize],
     subjects_ix: &mut [usize],
     functions_ix: &mut [usize],
 ) -> Names
     requires { ⌜ Sound (now t) (now list) n ⌝ }
     requires { ⌜ overLimit (between (now t) (now list) 0 n) ≡ noLine ⌝ }
+    requires { ⌜ end ≡ mapsEnd (now list) n ⌝ }
     requires { ⌜ Fresh (now t) (now «objects_ix») mostDomains ⌝ }
     requires { ⌜ Fresh (now t) (now «subjects_ix») mostDomains ⌝ }
     requires { ⌜ Fresh (now t) (now «functions_ix») mostMembers ⌝ }
@@ -83,16 +96,25 @@ fn index_maps(
         × (length (now («subjects_ix» .exit)) ≡ length (now («subjects_ix» .entry)))
         × (length (now («functions_ix» .exit)) ≡ length (now («functions_ix» .entry))) ⌝ }
 {
-    let objects = index_domains(t, list, n, rows::OBJECT_NAME, rows::OBJECT_NAME, objects_ix);
+    let objects = index_domains(
+        t,
+        list,
+        n,
+        end,
+        rows::OBJECT_NAME,
+        rows::OBJECT_NAME,
+        objects_ix,
+    );
     let subjects = index_domains(
         t,
         list,
         n,
+        end,
         rows::SUBJECT_NAME,
         rows::SUBJECT_NAME,
         subjects_ix,
     );
-    let functions = index_members(t, list, n, rows::SUBJECT_MEMBERS, functions_ix);
+    let functions = index_members(t, list, n, end, rows::SUBJECT_MEMBERS, functions_ix);
     Names {
         objects: objects.names,
         subjects: subjects.names,
@@ -162,9 +184,10 @@ pub fn index_names(
     ensures { λ r. ⌜ (r .twice ≡ 0 → Worded (numbersOf (between (now (t .entry)) (now (list .entry)) 0 n)) (now (t .entry)) (now (list .entry)) n
         (now (words .exit)) (now (starts .exit))) ⌝ }
 {
-    let domains = domains_line(t, list, n);
-    let objects = objects_line(t, list, n);
-    let maps = index_maps(t, list, n, objects_ix, subjects_ix, functions_ix);
+    let end = maps_end(list, n);
+    let domains = domains_line(t, list, n, end);
+    let objects = objects_line(t, list, n, end);
+    let maps = index_maps(t, list, n, end, objects_ix, subjects_ix, functions_ix);
     let lists = word_lists(
         t,
         list,

@@ -2,7 +2,7 @@
 use mathlib.Core.Path.{_≡_, refl, sym, ap, _∙_}
 use mathlib.Core.Bool.{true}
 use mathlib.Core.List.{List, [], _∷_, _++_, map, flatMap, append-assoc, append-nil}
-use Prim.Native.Nat.{ℕ, _+_, _*_, _≤_}
+use Prim.Native.Nat.{ℕ, _+_, _*_, _<_, _≤_}
 use native.Mathlib.Omega.{arith}
 use native.Mathlib.Nat.{zero-add}
 use lib.ListN.{length, take, drop, replicate, length-map, length-append, length-replicate, drop-of-length-le}
@@ -22,7 +22,8 @@ use Rattle.laws_file.specs.Accepted.{total}
 use Rattle.laws_file.proofs.Stretched.{stretches-counted}
 use Rattle.laws_file.proofs.Members.{members-length, members-counted}
 use Rattle.laws_file.proofs.Kept.{Counted, counted}
-use Rattle.file_fields.specs.Fields.{fieldSize, between}
+use Rattle.file_fields.specs.Fields.{fieldSize, between, mapsEnd}
+use Rattle.file_fields.proofs.Maps.{maps-within, fields-in-maps}
 use Rattle.file_words.specs.Words.{numbersOf, Worded}
 use Rattle.file_table.specs.Blocks.{entryBlocks, accessBlocks, ownBlocks, descriptorBlocks, mapsSize, mapBlocks, privilegesSize, privilegeBlocks, Filled}
 use Rattle.file_table.specs.Ready.{fits, Ready, OfObjects, OfSubjects, OfFunctions, Bounded}
@@ -166,6 +167,23 @@ module _ (file : List Field) (numbered : allOf isNumbered file ≡ true) (limits
 
 -- ---- the objects and the functions; the entries and the descriptors
 
+-- the members that the maps have are all of them
+module _ (t list : List ℕ) (n end : ℕ) (q : end ≡ mapsEnd list n) where
+  members-in-maps : (place : ℕ) → place < principal → memberDomains 0 (fieldsAt place (between t list 0 end)) ≡ memberDomains 0 (fieldsAt place (between t list 0 n))
+  members-in-maps place l = ap (memberDomains 0) (fields-in-maps t list n end place q l)
+
+  pub few-in-maps : (most : ℕ) → n ≤ most → end ≤ most
+  few-in-maps most h = let l : end ≤ n = rw q (maps-within list n) in omega arith
+
+  pub few-objects : length (memberDomains 0 (fieldsAt 3 (between t list 0 n))) ≤ mostMembers → length (memberDomains 0 (fieldsAt 3 (between t list 0 end))) ≤ mostMembers
+  few-objects h = rw (members-in-maps objectMembers (omega arith)) h
+
+  pub few-functions : length (memberDomains 0 (fieldsAt 6 (between t list 0 n))) ≤ mostMembers → length (memberDomains 0 (fieldsAt 6 (between t list 0 end))) ≤ mostMembers
+  few-functions h = rw (members-in-maps subjectMembers (omega arith)) h
+
+  pub objects-counted : (r : ℕ) → r ≡ length (memberDomains 0 (fieldsAt 3 (between t list 0 end))) → r ≡ length (memberDomains 0 (fieldsAt 3 (between t list 0 n)))
+  objects-counted r e = e ∙ rw (members-in-maps objectMembers (omega arith)) refl
+
 module _ (out : List ℕ) (l : length out ≡ mapsSize) (z : out ≡ replicate (length out) 0) where
   maps-out : out ≡ replicate (mostMembers + mostMembers) 0
   maps-out = z ∙ ap (λ (k : ℕ). replicate k 0) l
@@ -173,16 +191,23 @@ module _ (out : List ℕ) (l : length out ≡ mapsSize) (z : out ≡ replicate (
   pub objects-unwritten : take mostMembers (drop 0 out) ≡ replicate mostMembers 0
   objects-unwritten = rw maps-out (take-zeros mostMembers (mostMembers + mostMembers) (omega arith))
 
-  module _ (file : List Field) (y₁ : List ℕ) (e₁ : y₁ ≡ padded mostMembers (objectWords file)) (few : length (objectWords file) ≤ mostMembers) where
-    pub functions-unwritten : take mostMembers (drop mostMembers (take 0 out ++ (y₁ ++ drop mostMembers (drop 0 out)))) ≡ replicate mostMembers 0
-    functions-unwritten = two-zeros mostMembers mostMembers (padded mostMembers (objectWords file)) out y₁ maps-out e₁ (length-padded mostMembers (objectWords file) few)
+  module _ (t list : List ℕ) (n end : ℕ) (q : end ≡ mapsEnd list n) (y₁ : List ℕ) (e₁ : y₁ ≡ padded mostMembers (objectWords (between t list 0 end)))
+      (few : length (objectWords (between t list 0 n)) ≤ mostMembers) where
+    objects-laid : y₁ ≡ padded mostMembers (objectWords (between t list 0 n))
+    objects-laid = e₁ ∙ rw (members-in-maps t list n end q objectMembers (omega arith)) refl
 
-    pub maps-written : (y₂ : List ℕ) → y₂ ≡ padded mostMembers (functionWords file) → length (functionWords file) ≤ mostMembers
-        → take mostMembers (take 0 out ++ (y₁ ++ drop mostMembers (drop 0 out))) ++ (y₂ ++ drop mostMembers (drop mostMembers (take 0 out ++ (y₁ ++ drop mostMembers (drop 0 out))))) ≡ mapBlocks file
+    pub functions-unwritten : take mostMembers (drop mostMembers (take 0 out ++ (y₁ ++ drop mostMembers (drop 0 out)))) ≡ replicate mostMembers 0
+    functions-unwritten =
+        two-zeros mostMembers mostMembers (padded mostMembers (objectWords (between t list 0 n))) out y₁ maps-out objects-laid (length-padded mostMembers (objectWords (between t list 0 n)) few)
+
+    pub maps-written : (y₂ : List ℕ) → y₂ ≡ padded mostMembers (functionWords (between t list 0 end)) → length (functionWords (between t list 0 n)) ≤ mostMembers
+        → take mostMembers (take 0 out ++ (y₁ ++ drop mostMembers (drop 0 out))) ++ (y₂ ++ drop mostMembers (drop mostMembers (take 0 out ++ (y₁ ++ drop mostMembers (drop 0 out)))))
+        ≡ mapBlocks (between t list 0 n)
     unfolding mapBlocks
     maps-written y₂ e₂ few₂ =
-        two-laid mostMembers mostMembers (padded mostMembers (objectWords file)) out y₁ maps-out e₁ (length-padded mostMembers (objectWords file) few) (padded mostMembers (functionWords file)) y₂ e₂
-        (length-padded mostMembers (functionWords file) few₂)
+        two-laid mostMembers mostMembers (padded mostMembers (objectWords (between t list 0 n))) out y₁ maps-out objects-laid
+        (length-padded mostMembers (objectWords (between t list 0 n)) few) (padded mostMembers (functionWords (between t list 0 n))) y₂
+        (e₂ ∙ rw (members-in-maps t list n end q subjectMembers (omega arith)) refl) (length-padded mostMembers (functionWords (between t list 0 n)) few₂)
 
 module _ (out : List ℕ) (l : length out ≡ privilegesSize) (z : out ≡ replicate (length out) 0) where
   privileges-out : out ≡ replicate (entriesSize + descriptorsSize) 0

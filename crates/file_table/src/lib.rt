@@ -72,17 +72,18 @@ fn write_maps(t: &[u8], list: &[usize], n: usize, out: &mut [u16]) -> usize
     ensures { λ r. ⌜ r ≡ length (memberDomains 0 (fieldsAt objectMembers (between (now (t .entry)) (now (list .entry)) 0 n))) ⌝ }
     ensures { λ r. ⌜ now (out .exit) ≡ mapBlocks (between (now (t .entry)) (now (list .entry)) 0 n) ⌝ }
 {
+    let end = file_fields::maps_end(list, n);
     let objects = write_members(
         t,
         list,
-        n,
+        end,
         rows::OBJECT_MEMBERS,
         &mut out[0..limit::MEMBERS],
     );
     write_members(
         t,
         list,
-        n,
+        end,
         rows::SUBJECT_MEMBERS,
         &mut out[limit::MEMBERS..MAPS_SIZE],
     );

@@ -7,7 +7,7 @@ use native.Mathlib.Omega.{arith}
 use mir.Syntax.{w64}
 use mir.Val.{Fits}
 use lib.ListN.{length, take, drop, set, length-map, length-set}
-use lib.Seq.{sets, sets-eq}
+use lib.Seq.{sets, sets-eq, take-length}
 use borrow.Author.Tests.{lt-ltb, le-ltb}
 use Rattle.paper.specs.Common.{is}
 use Rattle.paper.specs.Lists.{elementsIn}
@@ -16,11 +16,28 @@ use Rattle.text_lists.specs.Walk.{firstElement, elementAt, elementsLeft, Spaced
 use Rattle.text_lists.specs.declared.Element.{Element}
 use Rattle.text_lists.specs.declared.Element.the-variants as element
 use Rattle.text_lists.proofs.Walk.{left-first, left-none, left-found, found-from, found-to, found-less, spaced-found}
-use Rattle.file_index.specs.Buckets.{hashOf}
+use Rattle.file_index.specs.Words.{namesAt, nameSize}
+use Rattle.file_index.specs.Buckets.{hashOf, numbersIn}
 use Rattle.file_words.specs.declared.Hashed.{Hashed}
 use Rattle.file_words.specs.declared.Hashed.the-variants.{Found, NoneLeft}
 use Rattle.file_words.specs.Hashed.{hashedBy, hashedAt}
 use Rattle.file_words.specs.Words.{elementWordBy, wordBy}
+
+-- ---- lent anew
+
+-- a list lent from its front to its end
+abbrev lent : List ℕ → List ℕ
+lent xs = take (length xs - 0) (drop 0 xs)
+
+is-lent : (xs : List ℕ) → lent xs ≡ xs
+is-lent xs = let e : length xs - 0 ≡ length xs = omega arith in rw e (take-length xs)
+
+module _ (t ix name : List ℕ) (n : ℕ) where
+  pub lent-room : namesAt + nameSize * n ≤ length ix → namesAt + nameSize * n ≤ length (lent ix)
+  lent-room h = rw (is-lent ix) h
+
+  pub lent-number : (d : ℕ) → d ≡ numbersIn (lent t) (lent ix) n (lent name) → d ≡ numbersIn t ix n name
+  lent-number d e = e ∙ rw (is-lent t, is-lent ix, is-lent name) refl
 
 -- ---- the word of a name
 

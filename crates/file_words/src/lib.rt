@@ -69,7 +69,8 @@ fn hashed_at(m: usize, s: &[u8], at: usize) -> Hashed
     }
 }
 
-// The word of an element whose hash is h: functions are looked up first, since most elements are.
+// The word of an element whose hash is h: functions are looked up first, since most elements are. What the last call takes is lent anew:
+// a slice passed on as it came would be put into memory for each element, and not only for a domain.
 fn element_word(
     t: &[u8],
     functions_ix: &[usize],
@@ -92,7 +93,7 @@ fn element_word(
     if number < functions {
         return (number + 1) as u16;
     }
-    element::FIRST_DOMAIN + (number_in(t, subjects_ix, subjects, name) as u16)
+    element::FIRST_DOMAIN + (number_in(&t[0..], &subjects_ix[0..], subjects, &name[0..]) as u16)
 }
 
 // The word of a name whose hash is h, in a pattern or in a list of domains.

@@ -1,18 +1,16 @@
 -- The classes of bytes: what the code computes of a byte is the paper's test. And the ends of a part.
 use mathlib.Core.Path.{_≡_, sym, _∙_}
 use mathlib.Core.List.{List}
-use mathlib.Core.Bool.{Bool, _&&_, _||_, and-assoc, and-true, or-assoc, or-false}
-use Prim.Native.Nat.{ℕ, _+_, _-_, _<_, _≤_}
+use mathlib.Core.Bool.{Bool, _||_, or-assoc, or-false}
+use Prim.Native.Nat.{ℕ, _-_, _≤_}
 use Prim.Native.Char.{code}
 use native.Mathlib.Omega.{arith}
 use lib.Dec.{eqb}
-use lib.ListN.{length, getD, take, drop, length-drop, drop-of-length-le}
+use lib.ListN.{length, take, drop, length-drop, drop-of-length-le}
 use lib.Seq.{take-nil, take-all}
-use Rattle.paper.specs.Common.{within, allOf, anyOf}
-use Rattle.paper.specs.Text.{comma, space}
+use Rattle.paper.specs.Common.{within, anyOf}
 use Rattle.paper.specs.Scalars.{isLetter, isDigit, nameByte, identifierFirst}
-use Rattle.laws.proofs.Places.{drop-more}
-use Rattle.text_bytes.specs.Classes.{isOf, isOfList}
+use Rattle.text_bytes.specs.Classes.{isOf}
 use Rattle.text_bytes.specs.declared.Class.{Class}
 
 module _ (b : ℕ) where
@@ -32,14 +30,8 @@ module _ (b : ℕ) where
   unfolding identifierFirst anyOf
   identifier-first-is letter digit e f = rw (e, f) (simp (or-assoc, or-false))
 
-  pub of-list-is : (class : Class) (r : Bool) → r ≡ isOf class b → (r || eqb b comma || eqb b space) ≡ isOfList class b
-  of-list-is class r e = rw e
-
   pub of-known-class : (class known : Class) (r : Bool) → class ≡ known → r ≡ isOf known b → r ≡ isOf class b
   of-known-class class known r e f = rw e f
-
-pub list-of-known-class : (class known : Class) (r : Bool) (s : List ℕ) → class ≡ known → r ≡ allOf (isOfList known) s → r ≡ allOf (isOfList class) s
-list-of-known-class class known r s e f = rw e f
 
 -- ---- a part from a start to an end
 
@@ -54,14 +46,3 @@ module _ (t : List ℕ) (start end : ℕ) where
   part-rest h =
       let l = length-drop start t in
       take-all (length t - start) (drop start t) (omega arith) ∙ sym (take-all (end - start) (drop start t) (omega arith))
-
--- ---- every byte passes a test, in a loop without exit: those before it did, and so do those from it on, exactly where all do
-
-module _ (f : ℕ → Bool) (s : List ℕ) (i : ℕ) (right : Bool) (inv : (right && allOf f (drop i s)) ≡ allOf f s) where
-  pub right-again : (r : Bool) → i < length s → r ≡ f (getD s i 0) → (right && r && allOf f (drop (i + 1) s)) ≡ allOf f s
-  unfolding allOf
-  right-again r h e = rw (← inv, drop-more s i h, e) (and-assoc right (f (getD s i 0)) (allOf f (drop (i + 1) s)))
-
-  pub right-done : length s ≤ i → right ≡ allOf f s
-  unfolding allOf
-  right-done h = rw (← inv, drop-of-length-le s h, and-true)

@@ -1,8 +1,8 @@
 -- The classes of bytes that the code asks a stretch to keep to, by the paper's tests.
 use Prim.Native.Nat.{ℕ}
-use mathlib.Core.Bool.{Bool, _||_}
+use mathlib.Core.Bool.{Bool, not, _&&_}
 use lib.Dec.{eqb}
-use Rattle.paper.specs.Text.{comma, space}
+use Rattle.paper.specs.Text.{bar}
 use Rattle.paper.specs.Scalars.{isDigit, nameByte, identifierByte}
 use Rattle.text_bytes.specs.declared.Class.{Class}
 use Rattle.text_bytes.specs.declared.Class.the-variants.{NameByte, IdentifierByte, Digit}
@@ -13,6 +13,6 @@ isOf NameByte b = nameByte b
 isOf IdentifierByte b = identifierByte b
 isOf Digit b = isDigit b
 
--- a byte between the brackets of a list whose elements are of the class: one of theirs, or a comma or space between them
-abbrev pub isOfList : Class → ℕ → Bool
-isOfList class b = isOf class b || eqb b comma || eqb b space
+-- a byte of one part of such a stretch: `|` stands between parts
+abbrev pub partByte : Class → ℕ → Bool
+partByte class b = isOf class b && not (eqb b bar)

@@ -2,13 +2,13 @@
 pub mod byte;
 
 ghost use mathlib.Core.Path.{_≡_};
-ghost use Prim.Native.Nat.{_+_, _-_};
-ghost use lib.ListN.{take, drop};
+ghost use Prim.Native.Nat.{_+_, _-_, _≤_};
+ghost use lib.ListN.{length, take, drop};
 ghost use Rattle.paper.specs.Common.{within, allOf, same, isFrontOf};
 ghost use Rattle.paper.specs.Scalars.{isLetter, isDigit, nameByte, identifierByte, identifierFirst};
 ghost use Rattle.laws.specs.Pieces.{before};
-ghost use Rattle.text_bytes.specs.Classes.{isOf, isOfList};
-ghost use Rattle.text_bytes.specs.declared.Class.the-variants.{IdentifierByte};
+ghost use Rattle.text_bytes.specs.Classes.{isOf, partByte};
+ghost use Rattle.text_bytes.specs.Marks.{Marks, run};
 
 // The classes of bytes that a stretch can be asked to keep to.
 pub enum Class {
@@ -105,7 +105,7 @@ fn name_byte(b: u8) -> bool
 }
 
 // Which bytes may stand in an identifier, sixteen a row: `1` for those that may, `0` for the others, so that `&` of many is `1` only where each is.
-const IDENTIFIER: [u8; 256] = *b"\
+pub const IDENTIFIER: [u8; 256] = *b"\
     0000000000000000\
     0000000000000000\
     0100111011110111\
@@ -114,6 +114,25 @@ const IDENTIFIER: [u8; 256] = *b"\
     1111111111101011\
     1111111111111111\
     1111111111101010\
+    0000000000000000\
+    0000000000000000\
+    0000000000000000\
+    0000000000000000\
+    0000000000000000\
+    0000000000000000\
+    0000000000000000\
+    0000000000000000";
+
+// Which bytes may stand in a name, in the same way.
+pub const NAME: [u8; 256] = *b"\
+    0000000000000000\
+    0000000000000000\
+    0000000000000010\
+    1111111111000000\
+    0111111111111111\
+    1111111111100001\
+    0111111111111111\
+    1111111111100000\
     0000000000000000\
     0000000000000000\
     0000000000000000\
@@ -161,50 +180,36 @@ pub fn all_of(class: Class, s: &[u8]) -> bool
     true
 }
 
-fn is_of_list(class: Class, b: u8) -> bool
-    ensures { λ r. ⌜ r ≡ isOfList class b ⌝ }
+// One look in a table.
+fn is_marked(class: Class, marked: &[u8], b: u8) -> bool
+    requires { ⌜ Marks (partByte class) (now marked) ⌝ }
+    ensures { λ r. ⌜ r ≡ partByte class b ⌝ }
 {
-    is_of(class, b) | (b == byte::COMMA) | (b == byte::SPACE)
+    let at = b as usize;
+    marked[at] == b'1'
 }
 
-// Every byte is of a list of the class: they are compared. The loop has no exit, so that it takes many bytes at a time.
-fn all_compared(class: Class, s: &[u8]) -> bool
-    ensures { λ r. ⌜ r ≡ allOf (isOfList class) (now (s .entry)) ⌝ }
+// Where the bytes that a table marks end, from `at` on: those of a part of the class. Two at a time, then the one that may be left.
+pub fn part_end(class: Class, marked: &[u8], s: &[u8], at: usize) -> usize
+    requires { ⌜ Marks (partByte class) (now marked) ⌝ }
+    requires { ⌜ at ≤ length (now s) ⌝ }
+    ensures { λ r. ⌜ r ≡ at + run (partByte class) (drop at (now (s .entry))) ⌝ }
 {
-    let mut right = true;
-    let mut i: usize = 0;
-    while i < s.len() {
-        right = right & is_of_list(class, s[i]);
-        i += 1;
+    let mut i = at;
+    while i + 2 <= s.len() {
+        if !is_marked(class, marked, s[i]) {
+            return i;
+        }
+        if !is_marked(class, marked, s[i + 1]) {
+            return i + 1;
+        }
+        i += 2;
     }
-    right
-}
-
-// Every byte is of a list of identifiers: they are looked up. A constant is put down anew at each use, so the table is taken once, in front of the
-// loop, and lets in what stands between identifiers.
-fn all_looked_up(s: &[u8]) -> bool
-    ensures { λ r. ⌜ r ≡ allOf (isOfList IdentifierByte) (now (s .entry)) ⌝ }
-{
-    let mut table = IDENTIFIER;
-    table[byte::COMMA as usize] = b'1';
-    table[byte::SPACE as usize] = b'1';
-    let mut right = b'1';
-    let mut i: usize = 0;
-    while i < s.len() {
-        let at = s[i] as usize;
-        right = right & table[at];
-        i += 1;
+    if s.len() <= i {
+        return i;
     }
-    right == b'1'
-}
-
-// Every byte is of a list of the class.
-pub fn all_of_list(class: Class, s: &[u8]) -> bool
-    ensures { λ r. ⌜ r ≡ allOf (isOfList class) (now (s .entry)) ⌝ }
-{
-    match class {
-        Class::NameByte => all_compared(class, s),
-        Class::IdentifierByte => all_looked_up(s),
-        Class::Digit => all_compared(class, s),
+    if is_marked(class, marked, s[i]) {
+        return i + 1;
     }
+    i
 }

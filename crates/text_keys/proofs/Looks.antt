@@ -1,26 +1,27 @@
 -- A line asked about a key, and the look for its place among several.
 use mathlib.Core.Path.{_≡_, refl, sym, ap, _∙_}
-use mathlib.Core.Bool.{Bool, true, false, cond}
-use mathlib.Core.List.{List, [], _∷_}
-use Prim.Native.Nat.{ℕ, zero, suc, _-_, _/_, _%_, _<_, _≤_}
+use mathlib.Core.Bool.{Bool, true, false, cond, not, _&&_, _||_}
+use mathlib.Core.List.{List}
+use Prim.Native.Nat.{ℕ, zero, suc, _+_, _-_, _/_, _%_, _<_, _≤_}
 use native.Mathlib.Nat.{not-suc-le-zero}
 use native.Mathlib.Omega.{arith}
 use lib.Dec.{eqb}
-use lib.ListN.{length, take, drop, length-drop}
-use lib.Seq.{take-all, length-take-le}
-use borrow.Author.Tests.{eq-eqb, ne-eqb}
+use lib.ListN.{length, getD, take, drop, length-drop}
+use lib.Seq.{take-all}
+use borrow.Author.Tests.{eqb-true, eqb-false, eq-eqb, ne-eqb, not-true, not-false}
 use Rattle.paper.specs.Common.{bytes, isFrontOf}
-use Rattle.laws.proofs.Tests.{both-right}
+use Rattle.laws.proofs.Tests.{both-false}
 use Rattle.paper.specs.Text.{column}
+use Rattle.text_lines.proofs.Laws.{column-within, column-again, column-stops, column-ends}
 use Rattle.paper.specs.Listing.{listing, rowAt, keyAt, dashed, alongside, beginsBlock}
 use Rattle.paper.specs.Page.{placeOf}
-use Rattle.text_keys.specs.Rows.{Said, keyText, mostKey, placesUpTo, seen, told}
+use Rattle.text_keys.specs.Rows.{Said, keyText, placesUpTo, seen, told}
 use Rattle.text_keys.specs.Asked.{answer}
-use Rattle.text_keys.specs.declared.Stand.{Stand}
 use Rattle.text_keys.specs.declared.rows.Row.{Row}
 use Rattle.text_keys.specs.declared.rows.Key.{Key}
 use Rattle.text_keys.specs.declared.Answer.{Answer}
 use Rattle.text_keys.specs.declared.Answer.the-variants.{No, Yes}
+use Rattle.text_keys.proofs.Fronts.{front-within}
 
 -- ---- how a line stands
 
@@ -31,52 +32,82 @@ dashed-is l k r e f =
     ∙ ap (isFrontOf (bytes "- ")) (take-all (length l - k) (drop k l) (omega (arith, length-drop k l)))
     ∙ ap (λ (n : ℕ). isFrontOf (bytes "- ") (drop n l)) e
 
-module _ (key l : List ℕ) (a b : ℕ) (ea : a ≡ column l) (eb : b ≡ column key) where
-  pub alongside-away : (a ≡ b → ⊥) → false ≡ alongside key l
-  unfolding alongside
-  alongside-away n = rw (← ea, ← eb, ne-eqb a b n)
+module _ (l : List ℕ) (k : ℕ) where
+  pub column-short : length l < k → false ≡ eqb (column l) k
+  column-short h = sym (ne-eqb (column l) k (λ z. omega (arith, column-within l)))
 
-  pub alongside-dashed : (d r : Bool) → a ≡ b → d ≡ dashed key → d ≡ true → r ≡ dashed l → r ≡ alongside key l
-  unfolding alongside
-  alongside-dashed d r q e t f = rw (← ea, ← eb, eq-eqb a b q, ← e, t, f)
+  module _ (i : ℕ) (inv : i + column (drop i l) ≡ column l) where
+    pub column-goes : i < k → k ≤ length l → getD l i 0 ≡ 32 → i + 1 + column (drop (i + 1) l) ≡ column l
+    column-goes h g e = column-again l i inv (omega arith) e
 
-  pub alongside-plain : (d : Bool) → a ≡ b → d ≡ dashed key → d ≡ false → true ≡ alongside key l
-  unfolding alongside
-  alongside-plain d q e t = rw (← ea, ← eb, eq-eqb a b q, ← e, t)
+    pub column-differs : i < k → k ≤ length l → (getD l i 0 ≡ 32 → ⊥) → false ≡ eqb (column l) k
+    column-differs h g n = let q : i ≡ column l = column-stops l i inv (omega arith) n in sym (ne-eqb (column l) k (λ z. omega arith))
+
+    module _ (h : i ≤ k) (g : k ≤ i) where
+      pub column-blank : length l ≤ i → true ≡ eqb (column l) k
+      column-blank m = let q : i ≡ column l = column-ends l i inv m in sym (eq-eqb (column l) k (omega arith))
+
+      pub column-last : i < length l → not (eqb (getD l i 0) 32) ≡ eqb (column l) k
+      column-last m = go (eqb (getD l i 0) 32) refl
+        where
+          go : (t : Bool) → eqb (getD l i 0) 32 ≡ t → not t ≡ eqb (column l) k
+          go true e = sym (ne-eqb (column l) k (λ z. omega (arith, column-again l i inv m (eqb-true (getD l i 0) 32 e))))
+          go false e = let q : i ≡ column l = column-stops l i inv m (eqb-false (getD l i 0) 32 e) in sym (eq-eqb (column l) k (omega arith))
+
+  module _ (c d : Bool) (e : c ≡ eqb (column l) k) where
+    pub stands-away : not c ≡ true → false ≡ (eqb (column l) k && (not d || dashed l))
+    stands-away t = rw (← e, not-true c t)
+
+    module _ (t : not c ≡ false) where
+      at-column : k ≡ column l
+      at-column = sym (eqb-true (column l) k (sym e ∙ not-false c t))
+
+      pub stands-within : k ≤ length l
+      stands-within = let q : k ≡ column l = at-column in omega (arith, column-within l)
+
+      pub stands-dashed : (r : Bool) → d ≡ true → r ≡ isFrontOf (bytes "- ") (take (length l - k) (drop k l)) → r ≡ (eqb (column l) k && (not d || dashed l))
+      stands-dashed r h f = rw (← e, not-false c t, h) (dashed-is l k r at-column f)
+
+      pub stands-plain : d ≡ false → true ≡ (eqb (column l) k && (not d || dashed l))
+      stands-plain h = rw (← e, not-false c t, h)
 
 -- ---- a question and its answer
 
-module _ (key l : List ℕ) (r : Bool) (e : r ≡ isFrontOf key l) where
-  pub answer-yes : r ≡ true → Yes (length key) ≡ answer key l
+module _ (key l : List ℕ) where
+  answer-no : isFrontOf key l ≡ false → No ≡ answer key l
   unfolding answer
-  answer-yes t = rw (← e, t)
+  answer-no e = rw e
 
-  pub answer-no : r ≡ false → No ≡ answer key l
-  unfolding answer
-  answer-no t = rw (← e, t)
+  pub asked-short : length l < length key → No ≡ answer key l
+  asked-short h = answer-no (go (isFrontOf key l) refl)
+    where
+      go : (t : Bool) → isFrontOf key l ≡ t → isFrontOf key l ≡ false
+      go true e = absurd (let q : length key ≤ length l = front-within key l e in omega arith)
+      go false e = e
+
+  module _ (back front : Bool) (e : (back && front) ≡ isFrontOf key l) where
+    pub asked-back : not back ≡ true → No ≡ answer key l
+    asked-back t = answer-no (sym e ∙ ap (λ (x : Bool). x && front) (not-true back t))
+
+    module _ (r : Bool) (f : r ≡ front) where
+      pub asked-front : not r ≡ true → No ≡ answer key l
+      asked-front t = answer-no (sym e ∙ both-false back front (sym f ∙ not-true r t))
+
+      pub asked-yes : not back ≡ false → not r ≡ false → Yes (length key) ≡ answer key l
+      unfolding answer
+      asked-yes s t = rw (← e, not-false back s, ← f, not-false r t)
 
 -- a key that is known by its name
 module _ (key k : Key) (e : key ≡ k) where
-  pub text-of : (bs : List ℕ) → take (length (keyText k)) bs ≡ keyText k → take (length (keyText key)) bs ≡ keyText key
-  text-of bs f = rw e f
-
   pub size-of : (n : ℕ) → n ≡ length (keyText k) → n ≡ length (keyText key)
   size-of n f = rw e f
 
-  module _ (s : Stand) (n : ℕ) (d : Bool) (q : s ≡ record { column = n; dashed = d }) where
-    pub column-of : n ≡ column (keyText k) → s .column ≡ column (keyText key)
-    column-of f = rw (e, q) f
+  pub asked-of : (l : List ℕ) (r : Answer) → r ≡ answer (keyText k) l → r ≡ answer (keyText key) l
+  asked-of l r f = rw e f
 
-    pub dashed-of : d ≡ dashed (keyText k) → s .dashed ≡ dashed (keyText key)
-    dashed-of f = rw (e, q) f
-
--- a key that stands in front of some bytes
-pub front-count : (n : ℕ) (bs : List ℕ) → n ≤ mostKey → length bs ≡ mostKey → n ≡ length (take n bs)
-front-count n bs h e = sym (length-take-le n bs (omega arith))
-
-pub asked-of : (key : Key) (bs l : List ℕ) (n : ℕ) (r : Answer) → take (length (keyText key)) bs ≡ keyText key → n ≡ length (keyText key) → r ≡ answer (take n bs) l
-    → r ≡ answer (keyText key) l
-asked-of key bs l n r e f g = g ∙ ap (λ (k : ℕ). answer (take k bs) l) f ∙ ap (λ (k : List ℕ). answer k l) e
+  pub alongside-of : (l : List ℕ) (n : ℕ) (d r : Bool) → r ≡ (eqb (column l) n && (not d || dashed l)) → n ≡ column (keyText k) → d ≡ dashed (keyText k) → r ≡ alongside (keyText key) l
+  unfolding alongside
+  alongside-of l n d r f g h = rw (e, ← g, ← h) f
 
 -- the row that the code found has the key of the place
 pub key-of : (p : ℕ) (r : Row) → seen r ≡ told (rowAt p) → keyText (r .key) ≡ keyAt p
@@ -109,13 +140,6 @@ module _ (p : ℕ) (row : Row) (l : List ℕ) (r : Answer) (e : seen row ≡ tol
       go : (t : Bool) → cond t (Yes (length (keyAt p))) No ≡ No → t ≡ false
       go true q = absurd (let z : _≡_ {A = ℕ} 0 1 = cc in omega arith)
       go false q = refl
-
--- a line is no shorter than a key that it begins with
-front-within : (key l : List ℕ) → isFrontOf key l ≡ true → length key ≤ length l
-unfolding isFrontOf
-front-within [] l h = omega arith
-front-within (k ∷ ks) [] h = absurd (let z : _≡_ {A = ℕ} 0 1 = cc in omega arith)
-front-within (k ∷ ks) (b ∷ bs) h = let q : length ks ≤ length bs = front-within ks bs (both-right (eqb k b) (isFrontOf ks bs) h) in omega arith
 
 pub yes-within : (p : ℕ) (row : Row) (l : List ℕ) (r : Answer) → seen row ≡ told (rowAt p) → r ≡ answer (keyText (row .key)) l → (n : ℕ) → r ≡ Yes n → n ≤ length l
 yes-within p row l r e f n y =

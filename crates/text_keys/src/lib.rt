@@ -3,14 +3,18 @@ pub mod rows;
 
 use crate::rows::Key;
 use crate::rows::NOWHERE;
+use text_bytes::byte;
 ghost use mathlib.Core.Path.{_≡_};
-ghost use Prim.Native.Nat.{_≤_};
+ghost use mathlib.Core.Bool.{not, _&&_, _||_};
+ghost use Prim.Native.Nat.{_+_, _%_, _≤_};
+ghost use lib.Dec.{eqb};
 ghost use lib.ListN.{length, take};
+ghost use Rattle.paper.specs.Common.{isFrontOf};
 ghost use Rattle.paper.specs.Text.{column};
 ghost use Rattle.paper.specs.Listing.{keyAt, dashed, alongside, beginsBlock};
 ghost use Rattle.paper.specs.Page.{placeOf};
 ghost use Rattle.text_keys.specs.Rows.{keyText, mostKey, placesIn};
-ghost use Rattle.text_keys.specs.Asked.{answer};
+ghost use Rattle.text_keys.specs.Asked.{answer, fourAlike, eightAlike};
 
 // The columns that keys stand at.
 const TOP: usize = 0;
@@ -21,53 +25,77 @@ const IN_PRINCIPAL: usize = 4;
 
 const IN_CONTEXT: usize = 6;
 
-// How a key stands on its line: at a column, perhaps behind a dash.
-pub struct Stand {
-    pub column: usize,
-    pub dashed: bool,
-}
-
 // Whether a line begins with a key; yes with how long the key is.
 enum Answer {
     No,
     Yes(usize),
 }
 
+// Four bytes of the key, from a place on, are the line's.
+fn four_alike(key: &[u8], l: &[u8], i: usize) -> bool
+    requires { ⌜ i + 4 ≤ length (now key) ⌝ }
+    requires { ⌜ length (now key) ≤ length (now l) ⌝ }
+    ensures { λ r. ⌜ r ≡ fourAlike (now (key .entry)) (now (l .entry)) i ⌝ }
+{
+    (key[i] == l[i])
+        & (key[i + 1] == l[i + 1])
+        & (key[i + 2] == l[i + 2])
+        & (key[i + 3] == l[i + 3])
+}
+
+fn eight_alike(key: &[u8], l: &[u8], i: usize) -> bool
+    requires { ⌜ i + 8 ≤ length (now key) ⌝ }
+    requires { ⌜ length (now key) ≤ length (now l) ⌝ }
+    ensures { λ r. ⌜ r ≡ eightAlike (now (key .entry)) (now (l .entry)) i ⌝ }
+{
+    four_alike(key, l, i) & four_alike(key, l, i + 4)
+}
+
+// All of the key but its first bytes, less than eight. It is compared from its end, since keys that may stand for one another begin alike.
+fn back_alike(key: &[u8], l: &[u8]) -> bool
+    requires { ⌜ length (now key) ≤ length (now l) ⌝ }
+    ensures { λ r. ⌜ (r && isFrontOf (take (length (now (key .entry)) % 8) (now (key .entry))) (now (l .entry))) ≡ isFrontOf (now (key .entry)) (now (l .entry)) ⌝ }
+{
+    let mut i = key.len();
+    while 8 <= i {
+        if !eight_alike(key, l, i - 8) {
+            return false;
+        }
+        i -= 8;
+    }
+    true
+}
+
+// The first bytes of the key.
+fn front_alike(key: &[u8], l: &[u8], count: usize) -> bool
+    requires { ⌜ count ≤ length (now key) ⌝ }
+    requires { ⌜ length (now key) ≤ length (now l) ⌝ }
+    ensures { λ r. ⌜ r ≡ isFrontOf (take count (now (key .entry))) (now (l .entry)) ⌝ }
+{
+    let mut i = count;
+    while 0 < i {
+        if key[i - 1] != l[i - 1] {
+            return false;
+        }
+        i -= 1;
+    }
+    true
+}
+
 fn asked(key: &[u8], l: &[u8]) -> Answer
     ensures { λ r. ⌜ r ≡ answer (now (key .entry)) (now (l .entry)) ⌝ }
 {
-    if text_bytes::is_front_of(key, l) {
-        return Answer::Yes(key.len());
+    let size = key.len();
+    if l.len() < size {
+        return Answer::No;
     }
-    Answer::No
-}
-
-// A key's text, with spaces behind it. It is an array and no stretch, so that only the text asked for is made.
-pub fn key_text(key: Key) -> [u8; 22]
-    ensures { λ r. ⌜ (length r ≡ mostKey) × (take (length (keyText key)) r ≡ keyText key) ⌝ }
-{
-    match key {
-        Key::Nothing => *b"                      ",
-        Key::ObjectMap => *b"object_map:           ",
-        Key::Name => *b"- name:               ",
-        Key::Objects => *b"  objects:            ",
-        Key::SubjectMap => *b"subject_map:          ",
-        Key::Subjects => *b"  subjects:           ",
-        Key::Privileges => *b"privileges:           ",
-        Key::Principal => *b"- principal:          ",
-        Key::Subject => *b"    subject:          ",
-        Key::ExecutionContext => *b"    execution_context:",
-        Key::CallContext => *b"      call_context:   ",
-        Key::Uid => *b"      uid:            ",
-        Key::Gid => *b"      gid:            ",
-        Key::Namespace => *b"      namespace:      ",
-        Key::CanCall => *b"  can_call:           ",
-        Key::CanReturn => *b"  can_return:         ",
-        Key::CanRead => *b"  can_read:           ",
-        Key::ItemObjects => *b"  - objects:          ",
-        Key::ObjectContext => *b"    object_context:   ",
-        Key::CanWrite => *b"  can_write:          ",
+    if !back_alike(key, l) {
+        return Answer::No;
     }
+    if !front_alike(key, l, size % 8) {
+        return Answer::No;
+    }
+    Answer::Yes(size)
 }
 
 // The colon is counted, LF is not.
@@ -98,65 +126,92 @@ pub fn key_size(key: Key) -> usize
     }
 }
 
+// Each key is asked by itself: the texts are compared as they are known when this is compiled.
 fn key_asked(key: Key, l: &[u8]) -> Answer
     ensures { λ r. ⌜ r ≡ answer (keyText key) (now (l .entry)) ⌝ }
 {
-    let text = key_text(key);
-    asked(&text[..key_size(key)], l)
-}
-
-fn stands_at(column: usize, dashed: bool) -> Stand
-    ensures { λ r. ⌜ r ≡ record { column = column; dashed = dashed } ⌝ }
-{
-    Stand { column, dashed }
-}
-
-fn key_stand(key: Key) -> Stand
-    ensures { λ r. ⌜ (r .column ≡ column (keyText key)) × (r .dashed ≡ dashed (keyText key)) ⌝ }
-{
     match key {
-        Key::Nothing => stands_at(TOP, false),
-        Key::ObjectMap => stands_at(TOP, false),
-        Key::Name => stands_at(TOP, true),
-        Key::Objects => stands_at(IN_ITEM, false),
-        Key::SubjectMap => stands_at(TOP, false),
-        Key::Subjects => stands_at(IN_ITEM, false),
-        Key::Privileges => stands_at(TOP, false),
-        Key::Principal => stands_at(TOP, true),
-        Key::Subject => stands_at(IN_PRINCIPAL, false),
-        Key::ExecutionContext => stands_at(IN_PRINCIPAL, false),
-        Key::CallContext => stands_at(IN_CONTEXT, false),
-        Key::Uid => stands_at(IN_CONTEXT, false),
-        Key::Gid => stands_at(IN_CONTEXT, false),
-        Key::Namespace => stands_at(IN_CONTEXT, false),
-        Key::CanCall => stands_at(IN_ITEM, false),
-        Key::CanReturn => stands_at(IN_ITEM, false),
-        Key::CanRead => stands_at(IN_ITEM, false),
-        Key::ItemObjects => stands_at(IN_ITEM, true),
-        Key::ObjectContext => stands_at(IN_PRINCIPAL, false),
-        Key::CanWrite => stands_at(IN_ITEM, false),
+        Key::Nothing => asked(b"", l),
+        Key::ObjectMap => asked(b"object_map:", l),
+        Key::Name => asked(b"- name:", l),
+        Key::Objects => asked(b"  objects:", l),
+        Key::SubjectMap => asked(b"subject_map:", l),
+        Key::Subjects => asked(b"  subjects:", l),
+        Key::Privileges => asked(b"privileges:", l),
+        Key::Principal => asked(b"- principal:", l),
+        Key::Subject => asked(b"    subject:", l),
+        Key::ExecutionContext => asked(b"    execution_context:", l),
+        Key::CallContext => asked(b"      call_context:", l),
+        Key::Uid => asked(b"      uid:", l),
+        Key::Gid => asked(b"      gid:", l),
+        Key::Namespace => asked(b"      namespace:", l),
+        Key::CanCall => asked(b"  can_call:", l),
+        Key::CanReturn => asked(b"  can_return:", l),
+        Key::CanRead => asked(b"  can_read:", l),
+        Key::ItemObjects => asked(b"  - objects:", l),
+        Key::ObjectContext => asked(b"    object_context:", l),
+        Key::CanWrite => asked(b"  can_write:", l),
     }
 }
 
-fn dashed(l: &[u8]) -> bool
-    ensures { λ r. ⌜ r ≡ dashed (now (l .entry)) ⌝ }
+fn has_column(l: &[u8], k: usize) -> bool
+    ensures { λ r. ⌜ r ≡ eqb (column (now (l .entry))) k ⌝ }
 {
-    let k = text_lines::column(l);
-    text_bytes::is_front_of(b"- ", &l[k..])
+    if l.len() < k {
+        return false;
+    }
+    let mut i: usize = 0;
+    while i < k {
+        if l[i] != byte::SPACE {
+            return false;
+        }
+        i += 1;
+    }
+    if l.len() <= i {
+        return true;
+    }
+    l[i] != byte::SPACE
 }
 
-// The line stands as the key does.
+// The line stands at a column, behind a dash where one is due.
+fn stands_at(k: usize, dash: bool, l: &[u8]) -> bool
+    ensures { λ r. ⌜ r ≡ (eqb (column (now (l .entry))) k && (not dash || dashed (now (l .entry)))) ⌝ }
+{
+    if !has_column(l, k) {
+        return false;
+    }
+    if dash {
+        return text_bytes::is_front_of(b"- ", &l[k..]);
+    }
+    true
+}
+
+// The line stands as the key does. Each key is looked at by itself, with its column known when this is compiled.
 fn alongside(key: Key, l: &[u8]) -> bool
     ensures { λ r. ⌜ r ≡ alongside (keyText key) (now (l .entry)) ⌝ }
 {
-    let stand = key_stand(key);
-    if text_lines::column(l) != stand.column {
-        return false;
+    match key {
+        Key::Nothing => stands_at(TOP, false, l),
+        Key::ObjectMap => stands_at(TOP, false, l),
+        Key::Name => stands_at(TOP, true, l),
+        Key::Objects => stands_at(IN_ITEM, false, l),
+        Key::SubjectMap => stands_at(TOP, false, l),
+        Key::Subjects => stands_at(IN_ITEM, false, l),
+        Key::Privileges => stands_at(TOP, false, l),
+        Key::Principal => stands_at(TOP, true, l),
+        Key::Subject => stands_at(IN_PRINCIPAL, false, l),
+        Key::ExecutionContext => stands_at(IN_PRINCIPAL, false, l),
+        Key::CallContext => stands_at(IN_CONTEXT, false, l),
+        Key::Uid => stands_at(IN_CONTEXT, false, l),
+        Key::Gid => stands_at(IN_CONTEXT, false, l),
+        Key::Namespace => stands_at(IN_CONTEXT, false, l),
+        Key::CanCall => stands_at(IN_ITEM, false, l),
+        Key::CanReturn => stands_at(IN_ITEM, false, l),
+        Key::CanRead => stands_at(IN_ITEM, false, l),
+        Key::ItemObjects => stands_at(IN_ITEM, true, l),
+        Key::ObjectContext => stands_at(IN_PRINCIPAL, false, l),
+        Key::CanWrite => stands_at(IN_ITEM, false, l),
     }
-    if stand.dashed {
-        return dashed(l);
-    }
-    true
 }
 
 // A place, and how long its key is.

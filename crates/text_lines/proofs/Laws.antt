@@ -9,7 +9,7 @@ use lib.Dec.{eqb}
 use lib.ListN.{length, getD, take, drop, length-drop, drop-of-length-le}
 use lib.Seq.{drop-length, getD-drop}
 use borrow.Author.Tests.{eqb-false, eq-eqb, ne-eqb, not-true, not-false}
-use Rattle.paper.specs.Common.{within}
+use Rattle.paper.specs.Common.{within, allOf}
 use Rattle.paper.specs.Text.{Line, nextByte, endAt, returnBeforeFeed, linesFrom, withByte, onLine, column, skipped, mayStand, badByteLine}
 use Rattle.laws.specs.Pieces.{before}
 use Rattle.laws.specs.Standing.{allStand}
@@ -19,19 +19,23 @@ use Rattle.laws.proofs.Tests.{both-left, both-right, both-false}
 use Rattle.laws.proofs.Standing.{feed-no-return, none-bad}
 use Rattle.laws.proofs.Bytes.{find-again, find-here}
 use Rattle.laws.proofs.Chains.{tested-true}
-use Rattle.text_lines.specs.Splits.{Splits, goesOn, fourGoOn, heldBytes}
+use Rattle.laws.proofs.Counting.{allOf-at}
+use Rattle.text_lines.specs.Plain.{isPlain}
+use Rattle.text_lines.specs.Splits.{Splits, goesOn, fourGoOn, eightGoOn, sixteenGoOn, heldBytes}
 
 -- ---- the way to the end of a line
+
+pub both-are : (a b x y : Bool) → a ≡ x → b ≡ y → (a && b) ≡ (x && y)
+both-are a b x y e f = rw (e, f) refl
 
 module _ (t : List ℕ) (at : ℕ) where
   module _ (i : ℕ) (inv : i + before 10 (drop i t) ≡ at + before 10 (drop at t)) where
     goes-on : i < length t → goesOn t i ≡ true → i + 1 + before 10 (drop (i + 1) t) ≡ at + before 10 (drop at t)
     goes-on h e = find-again 10 t at i inv h (eqb-false (getD t i 0) 10 (not-true (eqb (getD t i 0) 10) e))
 
-  pub four-again : (i : ℕ) → i + before 10 (drop i t) ≡ at + before 10 (drop at t) → i + 4 ≤ length t → (r : Bool) → r ≡ fourGoOn t i → not r ≡ false
+  four-on : (i : ℕ) → i + before 10 (drop i t) ≡ at + before 10 (drop at t) → i + 4 ≤ length t → fourGoOn t i ≡ true
       → i + 4 + before 10 (drop (i + 4) t) ≡ at + before 10 (drop at t)
-  four-again i inv h r e u =
-      let four : fourGoOn t i ≡ true = tested-true (fourGoOn t i) r e u in
+  four-on i inv h four =
       let three : (goesOn t i && goesOn t (i + 1) && goesOn t (i + 2)) ≡ true = both-left (goesOn t i && goesOn t (i + 1) && goesOn t (i + 2)) (goesOn t (i + 3)) four in
       let two : (goesOn t i && goesOn t (i + 1)) ≡ true = both-left (goesOn t i && goesOn t (i + 1)) (goesOn t (i + 2)) three in
       let p : i + 1 + 1 ≡ i + 2 = omega arith in
@@ -41,6 +45,28 @@ module _ (t : List ℕ) (at : ℕ) where
       let b : i + 2 + before 10 (drop (i + 2) t) ≡ at + before 10 (drop at t) = rw p at (goes-on (i + 1) a (omega arith) (both-right (goesOn t i) (goesOn t (i + 1)) two)) in
       let c : i + 3 + before 10 (drop (i + 3) t) ≡ at + before 10 (drop at t) = rw q at (goes-on (i + 2) b (omega arith) (both-right (goesOn t i && goesOn t (i + 1)) (goesOn t (i + 2)) three)) in
       rw z at (goes-on (i + 3) c (omega arith) (both-right (goesOn t i && goesOn t (i + 1) && goesOn t (i + 2)) (goesOn t (i + 3)) four))
+
+  eight-on : (i : ℕ) → i + before 10 (drop i t) ≡ at + before 10 (drop at t) → i + 8 ≤ length t → eightGoOn t i ≡ true
+      → i + 8 + before 10 (drop (i + 8) t) ≡ at + before 10 (drop at t)
+  eight-on i inv h e =
+      let half : i + 4 + before 10 (drop (i + 4) t) ≡ at + before 10 (drop at t) = four-on i inv (omega arith) (both-left (fourGoOn t i) (fourGoOn t (i + 4)) e) in
+      let z : i + 4 + 4 ≡ i + 8 = omega arith in
+      rw z at (four-on (i + 4) half (omega arith) (both-right (fourGoOn t i) (fourGoOn t (i + 4)) e))
+
+  pub sixteen-again : (i : ℕ) → i + before 10 (drop i t) ≡ at + before 10 (drop at t) → i + 16 ≤ length t → (r : Bool) → r ≡ sixteenGoOn t i → not r ≡ false
+      → i + 16 + before 10 (drop (i + 16) t) ≡ at + before 10 (drop at t)
+  sixteen-again i inv h r e u =
+      let both : sixteenGoOn t i ≡ true = tested-true (sixteenGoOn t i) r e u in
+      let half : i + 8 + before 10 (drop (i + 8) t) ≡ at + before 10 (drop at t) = eight-on i inv (omega arith) (both-left (eightGoOn t i) (eightGoOn t (i + 8)) both) in
+      let z : i + 8 + 8 ≡ i + 16 = omega arith in
+      rw z at (eight-on (i + 8) half (omega arith) (both-right (eightGoOn t i) (eightGoOn t (i + 8)) both))
+
+  pub eight-past : at + 8 ≤ length t → (r : Bool) → r ≡ eightGoOn t at → r ≡ true → (i : ℕ) → i + before 10 (drop i t) ≡ at + 8 + before 10 (drop (at + 8) t)
+      → i + before 10 (drop i t) ≡ at + before 10 (drop at t)
+  eight-past h r e u i f = f ∙ eight-on at refl h (sym e ∙ u)
+
+  pub four-past : at + 4 ≤ length t → (r : Bool) → r ≡ fourGoOn t at → r ≡ true → at + 4 + before 10 (drop (at + 4) t) ≡ at + before 10 (drop at t)
+  four-past h r e u = four-on at refl h (sym e ∙ u)
 
   pub ends-here : at < length t → getD t at 0 ≡ 10 → at ≡ at + before 10 (drop at t)
   ends-here h e = find-here 10 t at at refl h e
@@ -220,7 +246,7 @@ module _ (t : List ℕ) (at e : ℕ) (f : e ≡ at + before 10 (drop at t)) (w :
 
 -- ---- the column
 
-column-within : (l : List ℕ) → column l ≤ length l
+pub column-within : (l : List ℕ) → column l ≤ length l
 unfolding column
 column-within [] = omega arith
 column-within (b ∷ bs) = go (eqb b 32) (column-within bs)
@@ -264,9 +290,28 @@ skipped-else l k e h =
 
 -- ---- bytes that may stand
 
-pub stands-is : (b next : ℕ) (w : Bool) → w ≡ within 0x20 0x7E b → (eqb b 10 || w || (eqb b 13 && eqb next 10)) ≡ mayStand b next
+pub plain-is : (b : ℕ) (w : Bool) → w ≡ within 0x20 0x7E b → (eqb b 10 || w) ≡ isPlain b
+plain-is b w e = rw e refl
+
+pub stands-is : (b next : ℕ) (r : Bool) → r ≡ isPlain b → (r || (eqb b 13 && eqb next 10)) ≡ mayStand b next
 unfolding mayStand returnBeforeFeed
-stands-is b next w e = rw e
+stands-is b next r e = rw e
+
+plain-stands : (t : List ℕ) → allOf isPlain t ≡ true → allStand t ≡ true
+unfolding allOf allStand mayStand
+plain-stands [] e = refl
+plain-stands (b ∷ bs) e = rw (both-left (isPlain b) (allOf isPlain bs) e) (plain-stands bs (both-right (isPlain b) (allOf isPlain bs) e))
+
+pub plain-none : (t : List ℕ) (r : Bool) → r ≡ allOf isPlain t → r ≡ true → 0 ≡ badByteLine 1 t
+plain-none t r e h = sym (none-bad 1 t (plain-stands t (sym e ∙ h)))
+
+-- CR is not plain
+pub plain-not : (t : List ℕ) → 2 ≤ length t → getD t (length t - 2) 0 ≡ 13 → false ≡ allOf isPlain t
+plain-not t h e = go (allOf isPlain t) refl
+  where
+    go : (x : Bool) → allOf isPlain t ≡ x → false ≡ x
+    go true p = absurd (false≢true (ap isPlain (sym e) ∙ allOf-at isPlain 0 t p (length t - 2) (omega arith)))
+    go false p = refl
 
 -- the first byte of what is left
 next-is : (t : List ℕ) (i : ℕ) → nextByte (drop i t) ≡ getD t i 0
@@ -325,3 +370,14 @@ module _ (t : List ℕ) (i n : ℕ) (inv : badByteLine n (drop i t) ≡ badByteL
   pub bad-none : length t ≤ i → 0 ≡ badByteLine 1 t
   unfolding badByteLine
   bad-none h = rw (← inv, drop-of-length-le t h)
+
+-- ---- every byte passes a test, in a loop without exit: those before it did, and so do those from it on, exactly where all do
+
+module _ (f : ℕ → Bool) (s : List ℕ) (i : ℕ) (right : Bool) (inv : (right && allOf f (drop i s)) ≡ allOf f s) where
+  pub right-again : (r : Bool) → i < length s → r ≡ f (getD s i 0) → (right && r && allOf f (drop (i + 1) s)) ≡ allOf f s
+  unfolding allOf
+  right-again r h e = rw (← inv, drop-more s i h, e) (and-assoc right (f (getD s i 0)) (allOf f (drop (i + 1) s)))
+
+  pub right-done : length s ≤ i → right ≡ allOf f s
+  unfolding allOf
+  right-done h = rw (← inv, drop-of-length-le s h, and-true)

@@ -32,3 +32,10 @@ goesOn t i = not (eqb (getD t i 0) lineFeed)
 -- and behind the three after it
 abbrev pub fourGoOn : List ℕ → ℕ → Bool
 fourGoOn t i = goesOn t i && goesOn t (i + 1) && goesOn t (i + 2) && goesOn t (i + 3)
+
+-- and so on, twice as far each time
+abbrev pub eightGoOn : List ℕ → ℕ → Bool
+eightGoOn t i = fourGoOn t i && fourGoOn t (i + 4)
+
+abbrev pub sixteenGoOn : List ℕ → ℕ → Bool
+sixteenGoOn t i = eightGoOn t i && eightGoOn t (i + 8)

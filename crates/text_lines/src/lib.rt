@@ -6,10 +6,12 @@ ghost use mathlib.Core.Bool.{cond, not};
 ghost use Prim.Native.Nat.{_+_, _^_, _<_, _≤_};
 ghost use lib.Dec.{eqb};
 ghost use lib.ListN.{length, getD, drop};
+ghost use Rattle.paper.specs.Common.{allOf};
 ghost use Rattle.paper.specs.Text.{lineFeed, mayStand, badByteLine, column, skipped};
 ghost use Rattle.laws.specs.Pieces.{before};
 ghost use Rattle.laws.specs.Standing.{allStand};
-ghost use Rattle.text_lines.specs.Splits.{Splits, fourGoOn, heldBytes};
+ghost use Rattle.text_lines.specs.Plain.{isPlain};
+ghost use Rattle.text_lines.specs.Splits.{Splits, fourGoOn, eightGoOn, sixteenGoOn, heldBytes};
 
 // A line that begins at some place of a text: its bytes end at `end`, the next line begins at `next`.
 pub struct LineAt {
@@ -29,19 +31,69 @@ fn four_go_on(text: &[u8], i: usize) -> bool
         & (text[i + 3] != byte::LINE_FEED)
 }
 
-// A place on the line, less than four bytes before its end: the way there goes by four bytes at a time.
+fn eight_go_on(text: &[u8], i: usize) -> bool
+    requires { ⌜ i + 8 ≤ length (now text) ⌝ }
+    ensures { λ r. ⌜ r ≡ eightGoOn (now (text .entry)) i ⌝ }
+{
+    four_go_on(text, i) & four_go_on(text, i + 4)
+}
+
+fn sixteen_go_on(text: &[u8], i: usize) -> bool
+    requires { ⌜ i + 16 ≤ length (now text) ⌝ }
+    ensures { λ r. ⌜ r ≡ sixteenGoOn (now (text .entry)) i ⌝ }
+{
+    eight_go_on(text, i) & eight_go_on(text, i + 8)
+}
+
+// A place on the line, less than sixteen bytes before its end: the way there goes by sixteen bytes at a time.
+fn by_sixteen(text: &[u8], at: usize) -> usize
+    requires { ⌜ at < length (now text) ⌝ }
+    ensures { λ r. ⌜ (r + before lineFeed (drop r (now (text .entry))) ≡ at + before lineFeed (drop at (now (text .entry)))) × (r ≤ length (now (text .entry))) ⌝ }
+{
+    let mut i = at;
+    while i + 16 <= text.len() {
+        if !sixteen_go_on(text, i) {
+            return i;
+        }
+        i += 16;
+    }
+    i
+}
+
+// Four bytes on, where the line goes on so far.
+fn past_four(text: &[u8], at: usize) -> usize
+    requires { ⌜ at ≤ length (now text) ⌝ }
+    ensures { λ r. ⌜ r + before lineFeed (drop r (now (text .entry))) ≡ at + before lineFeed (drop at (now (text .entry))) ⌝ }
+{
+    if text.len() < at + 4 {
+        return at;
+    }
+    if four_go_on(text, at) {
+        return at + 4;
+    }
+    at
+}
+
+// Eight bytes on, perhaps four more.
+fn past_eight(text: &[u8], at: usize) -> usize
+    requires { ⌜ at ≤ length (now text) ⌝ }
+    ensures { λ r. ⌜ r + before lineFeed (drop r (now (text .entry))) ≡ at + before lineFeed (drop at (now (text .entry))) ⌝ }
+{
+    if text.len() < at + 8 {
+        return at;
+    }
+    if eight_go_on(text, at) {
+        return past_four(text, at + 8);
+    }
+    at
+}
+
+// A place on the line, less than eight bytes before its end.
 fn near_end(text: &[u8], at: usize) -> usize
     requires { ⌜ at < length (now text) ⌝ }
     ensures { λ r. ⌜ r + before lineFeed (drop r (now (text .entry))) ≡ at + before lineFeed (drop at (now (text .entry))) ⌝ }
 {
-    let mut i = at;
-    while i + 4 <= text.len() {
-        if !four_go_on(text, i) {
-            return i;
-        }
-        i += 4;
-    }
-    i
+    past_eight(text, by_sixteen(text, at))
 }
 
 fn line_end(text: &[u8], at: usize) -> usize
@@ -111,12 +163,38 @@ pub fn skipped(l: &[u8]) -> bool
     l[k] == byte::HASH
 }
 
+// A byte that may stand before any other.
+fn is_plain(b: u8) -> bool
+    ensures { λ r. ⌜ r ≡ isPlain b ⌝ }
+{
+    (b == byte::LINE_FEED) | text_bytes::within(b' ', b'~', b)
+}
+
+// Every byte is plain. The loop has no exit, so that it takes many bytes at a time; a text whose last line ends with CR LF does not come to it.
+fn all_plain(text: &[u8]) -> bool
+    ensures { λ r. ⌜ r ≡ allOf isPlain (now (text .entry)) ⌝ }
+{
+    let size = text.len();
+    if 2 <= size {
+        if text[size - 2] == byte::CARRIAGE_RETURN {
+            return false;
+        }
+    }
+    let mut right = true;
+    let mut i: usize = 0;
+    while i < text.len() {
+        right = right & is_plain(text[i]);
+        i += 1;
+    }
+    right
+}
+
 // A byte may stand before the next one.
 fn may_stand(b: u8, next: u8) -> bool
     ensures { λ r. ⌜ r ≡ mayStand b next ⌝ }
 {
     let ends_line = (b == byte::CARRIAGE_RETURN) & (next == byte::LINE_FEED);
-    (b == byte::LINE_FEED) | text_bytes::within(b' ', b'~', b) | ends_line
+    is_plain(b) | ends_line
 }
 
 // The byte behind a place; at the end of the text 0, which may stand nowhere.
@@ -160,10 +238,13 @@ fn line_behind(b: u8, line: usize) -> usize
 // No line: lines are numbered from 1.
 pub const NO_LINE: usize = 0;
 
-// The line of the first byte that may not stand; lines are counted only where there is one.
+// The line of the first byte that may not stand. Most texts are plain, which is seen in half the time; lines are counted only where a bad byte is.
 pub fn bad_byte_line(text: &[u8]) -> usize
     ensures { λ r. ⌜ r ≡ badByteLine 1 (now (text .entry)) ⌝ }
 {
+    if all_plain(text) {
+        return NO_LINE;
+    }
     if !has_bad_byte(text) {
         return NO_LINE;
     }

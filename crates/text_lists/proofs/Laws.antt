@@ -1,5 +1,5 @@
 -- Lists and values: what the code computes is the paper's test, or its fault.
-use mathlib.Core.Path.{_≡_, refl, sym, ap, _∙_}
+use mathlib.Core.Path.{_≡_, refl, sym, _∙_}
 use mathlib.Core.Bool.{Bool, true, false, cond, not, _&&_, _||_, Bool·beq, and-assoc, or-false}
 use mathlib.Core.List.{List, [], _∷_}
 use Prim.Native.Nat.{ℕ, _+_, _-_, _<_, _≤_}
@@ -17,15 +17,14 @@ use Rattle.paper.specs.Listing.{bareIsNone, valueFault}
 use Rattle.laws.proofs.Tests.{both-left}
 use Rattle.laws.proofs.Chains.{tested-false, tested-true}
 use Rattle.laws.proofs.Places.{drop-more}
-use Rattle.text_bytes.specs.declared.Class.{Class}
-use Rattle.text_bytes.specs.Classes.{isOfList}
-use Rattle.text_scalars.specs.Classed.{classOf, fits}
-use Rattle.text_lists.specs.Walk.{firstElement, elementAt, elementsLeft, SpacedFrom}
+use Rattle.paper.specs.Scalars.{isScalar}
+use Rattle.text_lists.specs.Walk.{firstElement, elementsLeft, SpacedFrom}
 use Rattle.text_lists.specs.Faults.{insideFault}
-use Rattle.text_lists.specs.declared.Element.{Element}
-use Rattle.text_lists.specs.declared.Element.the-variants.{Found, NoneLeft}
-use Rattle.text_lists.proofs.Walk.{left-first, left-none, left-found}
-use Rattle.text_lists.proofs.Elements.{lists-split}
+use Rattle.text_lists.specs.Reading.{readAt}
+use Rattle.text_lists.specs.declared.Read.{Read}
+use Rattle.text_lists.specs.declared.Read.the-variants.{Ends, Wrong}
+use Rattle.text_lists.proofs.Walk.{left-first, left-past}
+use Rattle.text_lists.proofs.Scalars.{read-wrong, read-right, read-ends, left-read}
 
 -- ---- brackets
 
@@ -78,25 +77,25 @@ module _ (s : List ℕ) (i : ℕ) (right : Bool) (inv : (right && spaced (getD s
   unfolding spaced
   spaced-told h = rw (← inv, drop-of-length-le s h)
 
--- ---- every element is as a scalar asks
+-- ---- every element is the scalar
 
 module _ (k : Scalar) (s : List ℕ) (at : ℕ) where
-  pub are-first : at ≡ firstElement s → allOf (fits k) (elementsLeft s at) ≡ allOf (fits k) (elementsIn s)
+  pub are-first : at ≡ firstElement s → allOf (isScalar k) (elementsLeft s at) ≡ allOf (isScalar k) (elementsIn s)
   are-first h = rw (h, left-first s)
 
-  module _ (r : Element) (q : r ≡ elementAt s at) (inv : allOf (fits k) (elementsLeft s at) ≡ allOf (fits k) (elementsIn s)) where
-    pub are-done : r ≡ NoneLeft → true ≡ allOf (fits k) (elementsIn s)
+  module _ (inv : allOf (isScalar k) (elementsLeft s at) ≡ allOf (isScalar k) (elementsIn s)) where
+    pub are-done : length s < at → true ≡ allOf (isScalar k) (elementsIn s)
     unfolding allOf
-    are-done n = rw (← inv, left-none s at r q n)
+    are-done h = rw (← inv, left-past s at h)
 
-    module _ (end next : ℕ) (n : r ≡ Found end next) (w : SpacedFrom s at) (a : Bool) (e : a ≡ fits k (take (end - at) (drop at s))) where
-      pub are-fails : not a ≡ true → false ≡ allOf (fits k) (elementsIn s)
+    module _ (h : at ≤ length s) (w : SpacedFrom s at) (r : Read) (q : r ≡ readAt k s at) where
+      pub are-fails : r ≡ Wrong → false ≡ allOf (isScalar k) (elementsIn s)
       unfolding allOf
-      are-fails t = rw (← inv, left-found s at r q end next n w, tested-false _ a e t)
+      are-fails n = rw (← inv, left-read s at h w, read-wrong k s at r q n)
 
-      pub are-again : not a ≡ false → allOf (fits k) (elementsLeft s next) ≡ allOf (fits k) (elementsIn s)
+      pub are-again : (end : ℕ) → r ≡ Ends end → allOf (isScalar k) (elementsLeft s (end + 2)) ≡ allOf (isScalar k) (elementsIn s)
       unfolding allOf
-      are-again t = rw (← inv, left-found s at r q end next n w, tested-true _ a e t)
+      are-again end n = rw (← inv, left-read s at h w, read-right k s at r q end n, read-ends k s at r q end n)
 
 -- ---- the fault of a list
 
@@ -108,15 +107,8 @@ module _ (k : Scalar) (s : List ℕ) (told : Bool) (e : told ≡ spaced 0 s) whe
     pub told-spaced : spaced 0 s ≡ true
     told-spaced = tested-true _ told e t
 
-    module _ (class : Class) (c : class ≡ classOf k) (every : Bool) (f : every ≡ allOf (isOfList class) s) where
-      every-is : every ≡ allOf (isOfList (classOf k)) s
-      every-is = f ∙ ap (λ (x : Class). allOf (isOfList x) s) c
-
-      pub other-byte : not every ≡ true → 5 ≡ insideFault k s
-      other-byte u = rw (told-spaced, lists-split k s, tested-false _ every every-is u)
-
-      pub fits-told : not every ≡ false → (fit : Bool) (m : ℕ) → fit ≡ allOf (fits k) (elementsIn s) → m ≡ cond fit 0 5 → m ≡ insideFault k s
-      fits-told u fit m g h = rw (told-spaced, lists-split k s, tested-true _ every every-is u, ← g) h
+    pub all-told : (every : Bool) (m : ℕ) → every ≡ allOf (isScalar k) (elementsIn s) → m ≡ cond every 0 5 → m ≡ insideFault k s
+    all-told every m g h = rw (told-spaced, ← g) h
 
 module _ (k : Scalar) (v : List ℕ) (told : Bool) (e : told ≡ bracketed v) where
   pub list-is : (m : ℕ) → told ≡ true → m ≡ insideFault k (take (length v - 1 - 1) (drop 1 v)) → m ≡ listFault k v

@@ -1,3 +1,4 @@
 pub mod Walk
-pub mod Elements
 pub mod Laws
+pub mod Reading
+pub mod Scalars

@@ -111,7 +111,7 @@ module _ (s : List ℕ) (at e : ℕ) (f : e ≡ at + before comma (drop at s)) (
 
 -- ---- the elements that are left at a place
 
-left-past : (s : List ℕ) (at : ℕ) → length s < at → elementsLeft s at ≡ []
+pub left-past : (s : List ℕ) (at : ℕ) → length s < at → elementsLeft s at ≡ []
 unfolding elementsLeft
 left-past s at h = rw (lt-ltb (length s) at h)
 

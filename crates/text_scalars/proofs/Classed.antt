@@ -1,25 +1,19 @@
--- A scalar's two halves are the scalar: its bytes are of its class, and the rest fits.
-use mathlib.Core.Path.{_≡_, refl, sym, ap, _∙_}
-use mathlib.Core.Bool.{Bool, true, false, not, _&&_, _||_, false≢true}
+-- The bytes of names may stand in identifiers; an identifier is its class and the rest.
+use mathlib.Core.Path.{_≡_, refl, sym, ap}
+use mathlib.Core.Bool.{Bool, true, false, _&&_, _||_, false≢true}
 use mathlib.Core.Logic.{⊎-elim}
-use mathlib.Core.List.{List, [], _∷_}
+use mathlib.Core.List.{List}
 use Prim.Native.Nat.{ℕ, _≤_}
-use Prim.Native.String.{String}
 use native.Mathlib.Omega.{arith}
 use lib.Dec.{eqb, leb}
 use lib.ListN.{length, getD}
 use borrow.Author.Tests.{eqb-true, ne-eqb, leb-true, le-leb}
-use Rattle.paper.specs.Common.{bytes, within, is, isOne, anyOf, allOf, cut}
+use Rattle.paper.specs.Common.{bytes, within, is, anyOf, allOf, cut}
 use Rattle.paper.specs.Text.{bar}
-use Rattle.paper.specs.Scalars.{isLetter, isDigit, nameByte, identifierByte, identifierFirst, partsFit, isName, isDomainName, isVariable, isUid, isGid, isIdentifier, isScalar}
+use Rattle.paper.specs.Scalars.{isLetter, isDigit, nameByte, identifierByte, identifierFirst, partsFit, isIdentifier}
 use Rattle.paper.specs.declared.Kind.{Kind}
-use Rattle.paper.specs.declared.Kind.the-variants.{Subject, Object}
-use Rattle.paper.specs.declared.Scalar.{Scalar}
-use Rattle.paper.specs.declared.Scalar.the-variants.{DomainName, UidValue, GidValue, SubjectIdentifier, ObjectIdentifier, PatternElement}
 use Rattle.laws.proofs.Tests.{both-left, both-right, either-of, same-equal}
-use Rattle.laws.proofs.Counting.{allOf-weaker}
-use Rattle.text_bytes.specs.Classes.{isOf}
-use Rattle.text_scalars.specs.Classed.{classOf, fitsKind, fits}
+use Rattle.text_scalars.specs.Classed.{fitsKind}
 
 -- ---- tests in another order
 
@@ -28,16 +22,6 @@ later true true p = refl
 later true false p = refl
 later false true p = refl
 later false false p = refl
-
-implied : (a b : Bool) → (b ≡ true → a ≡ true) → b ≡ (a && b)
-implied true b h = refl
-implied false true h = sym (h refl)
-implied false false h = refl
-
-implied-split : (a f d : Bool) → (d ≡ true → a ≡ true) → ((a && f) || d) ≡ (a && (f || d))
-implied-split true f d h = refl
-implied-split false f true h = sym (h refl)
-implied-split false f false h = refl
 
 -- ---- a name's bytes may stand in an identifier
 
@@ -57,7 +41,7 @@ between-marks b low high colon opening closing = rw (
   ne-eqb b 58 colon,
 )
 
-name-in-identifier : (b : ℕ) → nameByte b ≡ true → identifierByte b ≡ true
+pub name-in-identifier : (b : ℕ) → nameByte b ≡ true → identifierByte b ≡ true
 unfolding nameByte isLetter isDigit anyOf
 name-in-identifier b h =
     ⊎-elim
@@ -87,57 +71,6 @@ pub identifier-splits : (kind : Kind) (s : List ℕ) → isIdentifier kind s ≡
 unfolding isIdentifier fitsKind
 identifier-splits kind s = later (within 1 128 (length s) && identifierFirst (getD s 0 0)) (allOf identifierByte s) (partsFit kind (cut bar s))
 
-module _ (s : List ℕ) where
-  domain-name-splits : isDomainName s ≡ (allOf nameByte s && (within 1 64 (length s) && not (is "all" s)))
-  unfolding isDomainName isName
-  domain-name-splits = later (within 1 64 (length s)) (allOf nameByte s) (not (is "all" s))
-
-  name-bytes : (text : String) → allOf nameByte (bytes text) ≡ true → is text s ≡ true → allOf nameByte s ≡ true
-  name-bytes text h e = ap (allOf nameByte) (sym (same-equal (bytes text) s e)) ∙ h
-
-  variable-bytes : isVariable s ≡ true → allOf nameByte s ≡ true
-  unfolding isVariable isName
-  variable-bytes h = both-right (within 1 64 (length s)) (allOf nameByte s) (both-left (isName s) (not (isOne ("all" ∷ "root" ∷ "user" ∷ []) s)) h)
-
-  all-bytes : is "all" s ≡ true → allOf nameByte s ≡ true
-  unfolding allOf nameByte isLetter isDigit anyOf
-  all-bytes h = name-bytes "all" refl h
-
-  one-bytes : isOne ("root" ∷ "user" ∷ "all" ∷ []) s ≡ true → allOf nameByte s ≡ true
-  unfolding isOne allOf nameByte isLetter isDigit anyOf
-  one-bytes h =
-      ⊎-elim (λ e. name-bytes "root" refl e)
-      (λ k. ⊎-elim (λ e. name-bytes "user" refl e)
-      (λ m. ⊎-elim all-bytes (λ n. absurd (let z : _≡_ {A = ℕ} 0 1 = cc in omega arith)) (either-of (is "all" s) false m))
-      (either-of (is "user" s) (is "all" s || false) k))
-      (either-of (is "root" s) (is "user" s || (is "all" s || false)) h)
-
-  uid-bytes : isUid s ≡ true → allOf nameByte s ≡ true
-  unfolding isUid
-  uid-bytes h = ⊎-elim one-bytes variable-bytes (either-of (isOne ("root" ∷ "user" ∷ "all" ∷ []) s) (isVariable s) h)
-
-  gid-bytes : isGid s ≡ true → allOf nameByte s ≡ true
-  unfolding isGid
-  gid-bytes h = ⊎-elim all-bytes variable-bytes (either-of (is "all" s) (isVariable s) h)
-
-  domain-name-bytes : isDomainName s ≡ true → allOf identifierByte s ≡ true
-  unfolding isDomainName isName
-  domain-name-bytes h =
-      allOf-weaker nameByte identifierByte name-in-identifier s (both-right (within 1 64 (length s)) (allOf nameByte s) (both-left (isName s) (not (is "all" s)) h))
-
-  element-splits : (is "all" s || isIdentifier Subject s || isDomainName s) ≡ (allOf identifierByte s && (is "all" s || fitsKind Subject s || isDomainName s))
-  unfolding allOf identifierByte anyOf
-  element-splits = go (is "all" s) refl
-    where
-      go : (t : Bool) → is "all" s ≡ t → (t || isIdentifier Subject s || isDomainName s) ≡ (allOf identifierByte s && (t || fitsKind Subject s || isDomainName s))
-      go true e = let q : allOf identifierByte s ≡ true = ap (allOf identifierByte) (sym (same-equal (bytes "all") s e)) in rw q
-      go false e = rw (identifier-splits Subject s) (implied-split (allOf identifierByte s) (fitsKind Subject s) (isDomainName s) domain-name-bytes)
-
-pub scalar-splits : (k : Scalar) (s : List ℕ) → isScalar k s ≡ (allOf (isOf (classOf k)) s && fits k s)
-unfolding isScalar fits
-scalar-splits DomainName s = domain-name-splits s
-scalar-splits UidValue s = implied (allOf nameByte s) (isUid s) (uid-bytes s)
-scalar-splits GidValue s = implied (allOf nameByte s) (isGid s) (gid-bytes s)
-scalar-splits SubjectIdentifier s = identifier-splits Subject s
-scalar-splits ObjectIdentifier s = identifier-splits Object s
-scalar-splits PatternElement s = element-splits s
+pub all-bytes : (s : List ℕ) → is "all" s ≡ true → allOf nameByte s ≡ true
+unfolding allOf nameByte isLetter isDigit anyOf
+all-bytes s h = ap (allOf nameByte) (sym (same-equal (bytes "all") s h))

@@ -20,13 +20,13 @@ use Rattle.paper.specs.declared.Need.{Need}
 use Rattle.paper.specs.declared.Kind.{Kind}
 use Rattle.paper.specs.declared.Kind.the-variants.{Subject, Object}
 use Rattle.paper.specs.declared.Scalar.{Scalar}
-use Rattle.paper.specs.declared.Scalar.the-variants.{DomainName, PatternElement}
+use Rattle.paper.specs.declared.Scalar.the-variants.{PatternElement}
 use Rattle.laws.specs.Pieces.{before}
 use Rattle.laws.proofs.Tests.{same-equal, eqb-same}
 use Rattle.laws.proofs.Pieces.{piece-within, cut-more, cut-last, cut-some}
 use Rattle.text_scalars.specs.Sorts.{partsMeet, sortNamed, meetsSort}
 use Rattle.text_scalars.specs.declared.ObjectSort.{ObjectSort}
-use Rattle.text_scalars.specs.Classed.{fitsKind, fits}
+use Rattle.text_scalars.specs.Classed.{fitsKind}
 use Rattle.text_scalars.proofs.Classed.{identifier-splits}
 
 -- ---- names, users and groups
@@ -99,6 +99,10 @@ sort-table word p l n =
         go true e = named (same-equal (bytes text) word e)
         go false e = other e
 
+pub object-fits-is : (word p l n : List ℕ) (sort : ObjectSort) (r : Bool) → sort ≡ sortNamed word → r ≡ meetsSort sort p l n → r ≡ partsFit Object (word ∷ p ∷ l ∷ n ∷ [])
+unfolding partsFit
+object-fits-is word p l n sort r f e = rw (e, f) (sort-table word p l n)
+
 -- ---- the parts between the `|`
 
 module _ (s : List ℕ) (a : ℕ) (fa : a ≡ 0 + before bar (drop 0 s)) where
@@ -167,12 +171,11 @@ module _ (s : List ℕ) (a : ℕ) (fa : a ≡ 0 + before bar (drop 0 s)) where
           ne-eqb (suc (suc (suc (suc (suc (length (cut-some bar (drop (d + 1) s) .1))))))) 4 (λ z. omega arith),
         )
 
-        pub object-parts : (sort : ObjectSort) (r : Bool) → length s ≤ d → sort ≡ sortNamed (take (a - 0) (drop 0 s))
-            → r ≡ meetsSort sort (take (b - (a + 1)) (drop (a + 1) s)) (take (c - (b + 1)) (drop (b + 1) s)) (take (length s - (c + 1)) (drop (c + 1) s))
+        pub object-parts : (r : Bool) → length s ≤ d
+            → r ≡ partsFit Object (take (a - 0) (drop 0 s) ∷ take (b - (a + 1)) (drop (a + 1) s) ∷ take (c - (b + 1)) (drop (b + 1) s) ∷ take (length s - (c + 1)) (drop (c + 1) s) ∷ [])
             → r ≡ partsFit Object (cut bar s)
-        unfolding partsFit
-        object-parts sort r h f e = let q : length s ≡ d = omega (arith, piece-within bar s (c + 1) d fd (omega arith)) in
-            rw (first-part, second-part, third-part, cut-last bar s (c + 1) d fd (omega arith) h, e, f, q) (sort-table _ _ _ _)
+        object-parts r h e = let q : length s ≡ d = omega (arith, piece-within bar s (c + 1) d fd (omega arith)) in
+            rw (first-part, second-part, third-part, cut-last bar s (c + 1) d fd (omega arith) h, e, q)
 
 pub parts-known : (kind known : Kind) (parts : List (List ℕ)) (r : Bool) → kind ≡ known → r ≡ partsFit known parts → r ≡ partsFit kind parts
 parts-known kind known parts r e f = rw e f
@@ -199,10 +202,6 @@ module _ (s : List ℕ) (r all : Bool) (e : all ≡ same (bytes "all") s) where
   unfolding isScalar
   element-all t = rw (← e, t)
 
-  pub fits-all : all ≡ true → true ≡ fits PatternElement s
-  unfolding fits
-  fits-all t = rw (← e, t)
-
   module _ (t : all ≡ false) where
     pub element-identifier : r ≡ isIdentifier Subject s → r ≡ true → r ≡ isScalar PatternElement s
     unfolding isScalar
@@ -212,21 +211,5 @@ module _ (s : List ℕ) (r all : Bool) (e : all ≡ same (bytes "all") s) where
     unfolding isScalar
     element-name identifier f u n = rw (← e, t, ← f, u, n)
 
-    pub fits-identifier : r ≡ fitsKind Subject s → r ≡ true → r ≡ fits PatternElement s
-    unfolding fits
-    fits-identifier f u = rw (← e, t, ← f, u)
-
-    pub fits-name : (identifier : Bool) → identifier ≡ fitsKind Subject s → identifier ≡ false → r ≡ isDomainName s → r ≡ fits PatternElement s
-    unfolding fits
-    fits-name identifier f u n = rw (← e, t, ← f, u, n)
-
-module _ (s : List ℕ) (r : Bool) where
-  pub scalar-known : (scalar known : Scalar) → scalar ≡ known → r ≡ isScalar known s → r ≡ isScalar scalar s
-  scalar-known scalar known e f = rw e f
-
-  pub fits-known : (scalar known : Scalar) → scalar ≡ known → r ≡ fits known s → r ≡ fits scalar s
-  fits-known scalar known e f = rw e f
-
-  pub fits-domain-name-is : (all : Bool) → r ≡ within 1 64 (length s) → all ≡ same (bytes "all") s → (r && not all) ≡ fits DomainName s
-  unfolding fits
-  fits-domain-name-is all e f = rw (e, f)
+pub scalar-known : (s : List ℕ) (r : Bool) (scalar known : Scalar) → scalar ≡ known → r ≡ isScalar known s → r ≡ isScalar scalar s
+scalar-known s r scalar known e f = rw e f

@@ -6,14 +6,15 @@ use paper::limit;
 use text_bytes::Class;
 use text_bytes::byte;
 ghost use mathlib.Core.Path.{_≡_};
+ghost use mathlib.Core.List.{[], _∷_};
 ghost use lib.ListN.{length};
 ghost use Rattle.paper.specs.Common.{within, cut};
 ghost use Rattle.paper.specs.Text.{bar};
 ghost use Rattle.paper.specs.Scalars.{isName, isDomainName, isVariable, isUid, isGid, isLineNumber, meets, partsFit, isIdentifier, isScalar};
 ghost use Rattle.paper.specs.declared.Kind.the-variants.{Subject, Object};
-ghost use Rattle.paper.specs.declared.Scalar.the-variants.{DomainName, PatternElement};
+ghost use Rattle.paper.specs.declared.Scalar.the-variants.{PatternElement};
 ghost use Rattle.text_scalars.specs.Sorts.{sortNamed, partsMeet, meetsSort};
-ghost use Rattle.text_scalars.specs.Classed.{classOf, fitsKind, fits};
+ghost use Rattle.text_scalars.specs.Classed.{fitsKind};
 
 // The sorts of object, by the first part of an identifier; `Unknown` where it names none.
 enum ObjectSort {
@@ -26,7 +27,7 @@ enum ObjectSort {
     Unknown,
 }
 
-fn has_name_length(s: &[u8]) -> bool
+pub fn has_name_length(s: &[u8]) -> bool
     ensures { λ r. ⌜ r ≡ within 1 64 (length (now (s .entry))) ⌝ }
 {
     (1 <= s.len()) & (s.len() <= limit::NAME_BYTES)
@@ -147,6 +148,13 @@ fn subject_parts_fit(s: &[u8]) -> bool
     (s.len() <= right_end) & (left_end != 0) & (right != s.len())
 }
 
+// These parts are those of an object identifier.
+pub fn object_fits(sort: &[u8], path: &[u8], line: &[u8], name: &[u8]) -> bool
+    ensures { λ r. ⌜ r ≡ partsFit Object (now (sort .entry) ∷ now (path .entry) ∷ now (line .entry) ∷ now (name .entry) ∷ []) ⌝ }
+{
+    meets_sort(object_sort(sort), path, line, name)
+}
+
 // Three `|`, and parts as the sort needs them.
 fn object_parts_fit(s: &[u8]) -> bool
     ensures { λ r. ⌜ r ≡ partsFit Object (cut bar (now (s .entry))) ⌝ }
@@ -170,8 +178,12 @@ fn object_parts_fit(s: &[u8]) -> bool
     if name_end < s.len() {
         return false;
     }
-    let sort = object_sort(&s[0..sort_end]);
-    meets_sort(sort, &s[path..path_end], &s[line..line_end], &s[name..])
+    object_fits(
+        &s[0..sort_end],
+        &s[path..path_end],
+        &s[line..line_end],
+        &s[name..],
+    )
 }
 
 fn parts_fit(kind: Kind, s: &[u8]) -> bool
@@ -219,49 +231,5 @@ pub fn is_scalar(scalar: Scalar, s: &[u8]) -> bool
         Scalar::SubjectIdentifier => is_identifier(Kind::Subject, s),
         Scalar::ObjectIdentifier => is_identifier(Kind::Object, s),
         Scalar::PatternElement => is_pattern_element(s),
-    }
-}
-
-// The class that a scalar's bytes are of.
-pub fn class_of(scalar: Scalar) -> Class
-    ensures { λ r. ⌜ r ≡ classOf scalar ⌝ }
-{
-    match scalar {
-        Scalar::DomainName => Class::NameByte,
-        Scalar::UidValue => Class::NameByte,
-        Scalar::GidValue => Class::NameByte,
-        Scalar::SubjectIdentifier => Class::IdentifierByte,
-        Scalar::ObjectIdentifier => Class::IdentifierByte,
-        Scalar::PatternElement => Class::IdentifierByte,
-    }
-}
-
-fn fits_domain_name(s: &[u8]) -> bool
-    ensures { λ r. ⌜ r ≡ fits DomainName (now (s .entry)) ⌝ }
-{
-    has_name_length(s) & !text_bytes::same(b"all", s)
-}
-
-// A name's bytes are fewer than an identifier's: its own test is the whole one.
-fn fits_pattern_element(s: &[u8]) -> bool
-    ensures { λ r. ⌜ r ≡ fits PatternElement (now (s .entry)) ⌝ }
-{
-    if text_bytes::same(b"all", s) {
-        return true;
-    }
-    fits_kind(Kind::Subject, s) || is_domain_name(s)
-}
-
-// What is asked of a scalar besides the class of its bytes.
-pub fn fits(scalar: Scalar, s: &[u8]) -> bool
-    ensures { λ r. ⌜ r ≡ fits scalar (now (s .entry)) ⌝ }
-{
-    match scalar {
-        Scalar::DomainName => fits_domain_name(s),
-        Scalar::UidValue => is_uid(s),
-        Scalar::GidValue => is_gid(s),
-        Scalar::SubjectIdentifier => fits_kind(Kind::Subject, s),
-        Scalar::ObjectIdentifier => fits_kind(Kind::Object, s),
-        Scalar::PatternElement => fits_pattern_element(s),
     }
 }

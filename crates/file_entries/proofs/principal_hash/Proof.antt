@@ -1,4 +1,4 @@
--- Two hashes and three sorts in one number.
+-- Two hashes and three sorts in one number, of which thirty-two bits are kept.
 use Rattle.file_entries.proofs.Omitted.{subject-omitted, pattern-omitted, uid-omitted, gid-omitted, namespace-omitted}
 use Rattle.file_entries.proofs.Principals.{principal-hash-is}
 use borrow.Author.Needs.{needs}
@@ -26,26 +26,29 @@ sort-at-requires-2 c κs = search (needs, gid-omitted)
 sort-at-requires-3 : tie.Need-sort-at-requires-3
 sort-at-requires-3 c κs = search (needs, namespace-omitted)
 
-add-result : tie.Need-add-result
-add-result c = search needs
+add-hash : tie.Need-add-hash
+add-hash c = search needs
 
-mul-result : tie.Need-mul-result
-mul-result c = search needs
+mul-hash : tie.Need-mul-hash
+mul-hash c = search needs
 
-add-result-2 : tie.Need-add-result-2
-add-result-2 c = search needs
+add-hash-2 : tie.Need-add-hash-2
+add-hash-2 c = search needs
 
-mul-result-2 : tie.Need-mul-result-2
-mul-result-2 c = search needs
+mul-hash-2 : tie.Need-mul-hash-2
+mul-hash-2 c = search needs
 
-add-result-3 : tie.Need-add-result-3
-add-result-3 c = search needs
+add-hash-3 : tie.Need-add-hash-3
+add-hash-3 c = search needs
 
-mul-result-3 : tie.Need-mul-result-3
-mul-result-3 c = search needs
+mul-hash-3 : tie.Need-mul-hash-3
+mul-hash-3 c = search needs
 
-add-result-4 : tie.Need-add-result-4
-add-result-4 c = search needs
+add-hash-4 : tie.Need-add-hash-4
+add-hash-4 c = search needs
+
+cast-result : tie.Need-cast-result
+cast-result c = search needs
 
 returns : tie.Need-returns
 returns c = search (needs, principal-hash-is)
@@ -61,11 +64,12 @@ principal-hash-spec =
     sort-at-requires
     sort-at-requires-2
     sort-at-requires-3
-    add-result
-    mul-result
-    add-result-2
-    mul-result-2
-    add-result-3
-    mul-result-3
-    add-result-4
+    add-hash
+    mul-hash
+    add-hash-2
+    mul-hash-2
+    add-hash-3
+    mul-hash-3
+    add-hash-4
+    cast-result
     returns)

@@ -1,5 +1,5 @@
 -- A cleared index has room for the domains of both maps.
-use Rattle.file_names.proofs.Mapped.{cleared, room-for-both, both-line}
+use Rattle.file_names.proofs.Mapped.{cleared, room-for-both, both-end, both-line}
 use borrow.Author.Needs.{needs}
 use Rattle.file_names.proofs.domains_line.Statement.{statement}
 use Rattle.file_names.proofs.domains_line.Tie as tie
@@ -11,7 +11,7 @@ slice-aggregate-index-domains : tie.Need-slice-aggregate-index-domains
 slice-aggregate-index-domains c = search needs
 
 index-domains-requires : tie.Need-index-domains-requires
-index-domains-requires c κs = (search needs, (search (needs, cleared), search (needs, room-for-both)))
+index-domains-requires c κs = (search needs, (search (needs, cleared), (search (needs, room-for-both), search (needs, both-end))))
 
 returns : tie.Need-returns
 returns c = search (needs, both-line)

@@ -4,6 +4,9 @@ use borrow.Author.Needs.{needs}
 use Rattle.file_names.proofs.index_names.Statement.{statement}
 use Rattle.file_names.proofs.index_names.Tie as tie
 
+maps-end-requires : tie.Need-maps-end-requires
+maps-end-requires c κs = search needs
+
 domains-line-requires : tie.Need-domains-line-requires
 domains-line-requires c κs = search needs
 
@@ -11,12 +14,15 @@ objects-line-requires : tie.Need-objects-line-requires
 objects-line-requires c κs = search needs
 
 index-maps-requires : tie.Need-index-maps-requires
-index-maps-requires c κs = search needs
+index-maps-requires c κs =
+    let pre = c .before .before .before .before .before .before .before .before .before .before .before .before .before .pre in
+    let end = c .before .before .before .before .before .maps-end .ensures in
+    (pre .0, (pre .1 .1 .0, (end, pre .1 .1 .1)))
 
 word-lists-requires : tie.Need-word-lists-requires
 word-lists-requires c κs =
     let pre = c .before .before .before .before .before .before .before .before .before .before .before .before .before .before .before .before .before
-    .before .before .before .before .before .before .before .pre in
+    .before .before .before .before .before .before .before .before .pre in
     let maps = c .before .before .before .before .before .before .before .before .before .before .before .index-maps .ensures in
     (pre .0, (pre .1 .0, went-room _ _ _ _ _ _ _ _ _ (maps .0) (pre .1 .1 .1 .0) (pre .1 .1 .1 .1 .0) (pre .1 .1 .1 .1 .1) (maps .1 .0) (maps .1 .1) (maps .1 .2)))
 
@@ -47,7 +53,7 @@ same-length-5 c = search needs
 returns : tie.Need-returns
 returns c =
     let pre = c .before .before .before .before .before .before .before .before .before .before .before .before .before .before .before .before .before
-    .before .before .before .before .before .before .before .before .before .before .before .before .before .before .before .pre in
+    .before .before .before .before .before .before .before .before .before .before .before .before .before .before .before .before .pre in
     let domains = c .before .before .before .before .before .before .before .before .before .before .before .before .before .before .before .before
     .before .before .before .before .before .before .before .before .domains-line .ensures in
     let objects = c .before .before .before .before .before .before .before .before .before .before .before .before .before .before .before .before
@@ -72,6 +78,7 @@ pub index-names-spec : {M : Type 1} → statement M
 index-names-spec =
     tie.close
     (tie.spec
+    maps-end-requires
     domains-line-requires
     objects-line-requires
     index-maps-requires

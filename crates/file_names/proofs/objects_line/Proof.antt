@@ -1,5 +1,5 @@
 -- A cleared index has room for the objects.
-use Rattle.file_names.proofs.Mapped.{cleared, room-for-objects}
+use Rattle.file_names.proofs.Mapped.{cleared, room-for-objects, objects-end}
 use borrow.Author.Needs.{needs}
 use Rattle.file_names.proofs.objects_line.Statement.{statement}
 use Rattle.file_names.proofs.objects_line.Tie as tie
@@ -11,7 +11,7 @@ slice-aggregate-index-members : tie.Need-slice-aggregate-index-members
 slice-aggregate-index-members c = search needs
 
 index-members-requires : tie.Need-index-members-requires
-index-members-requires c κs = (search needs, (search (needs, cleared), search (needs, room-for-objects)))
+index-members-requires c κs = (search needs, (search (needs, cleared), (search (needs, room-for-objects), search (needs, objects-end))))
 
 returns : tie.Need-returns
 returns c = search needs

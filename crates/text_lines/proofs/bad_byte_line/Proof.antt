@@ -3,7 +3,7 @@ use mathlib.Core.Path.{_≡_}
 use Prim.Native.Nat.{_+_, _-_, _≤_}
 use lib.ListN.{length, drop}
 use Rattle.paper.specs.Text.{badByteLine}
-use Rattle.text_lines.proofs.Laws.{bad-nowhere, bad-again, bad-here, bad-none}
+use Rattle.text_lines.proofs.Laws.{plain-none, bad-nowhere, bad-again, bad-here, bad-none}
 use borrow.Author.Needs.{needs}
 use Rattle.text_lines.proofs.bad_byte_line.Statement.{statement}
 use Rattle.text_lines.proofs.bad_byte_line.Tie as tie
@@ -14,11 +14,17 @@ Inv-loop text line₀ i₀ line i = (line ≤ i + 1) × (badByteLine line (drop 
 abbrev μ-loop : tie.MeasureT-loop
 μ-loop text line₀ i₀ line i = length text - i
 
+all-plain-requires : tie.Need-all-plain-requires Inv-loop μ-loop
+all-plain-requires c κs = search needs
+
+returns : tie.Need-returns Inv-loop μ-loop
+returns c = search (needs, plain-none)
+
 has-bad-byte-requires : tie.Need-has-bad-byte-requires Inv-loop μ-loop
 has-bad-byte-requires c κs = search needs
 
-returns : tie.Need-returns Inv-loop μ-loop
-returns c = search (needs, bad-nowhere)
+returns-2 : tie.Need-returns-2 Inv-loop μ-loop
+returns-2 c = search (needs, bad-nowhere)
 
 loop-holds : tie.Need-loop-holds Inv-loop μ-loop
 loop-holds c = search needs
@@ -32,8 +38,8 @@ byte-behind-requires c κs = search needs
 may-stand-requires : tie.Need-may-stand-requires Inv-loop μ-loop
 may-stand-requires c κs = search needs
 
-returns-2 : tie.Need-returns-2 Inv-loop μ-loop
-returns-2 c = search (needs, bad-here)
+returns-3 : tie.Need-returns-3 Inv-loop μ-loop
+returns-3 c = search (needs, bad-here)
 
 line-behind-requires : tie.Need-line-behind-requires Inv-loop μ-loop
 line-behind-requires c κs = search needs
@@ -47,8 +53,8 @@ loop-less c = search needs
 loop-again : tie.Need-loop-again Inv-loop μ-loop
 loop-again c = search (needs, bad-again)
 
-returns-3 : tie.Need-returns-3 Inv-loop μ-loop
-returns-3 c = search (needs, bad-none)
+returns-4 : tie.Need-returns-4 Inv-loop μ-loop
+returns-4 c = search (needs, bad-none)
 
 pub bad-byte-line-spec : {M : Type 1} → statement M
 bad-byte-line-spec =
@@ -56,15 +62,17 @@ bad-byte-line-spec =
     (tie.spec
     Inv-loop
     μ-loop
-    has-bad-byte-requires
+    all-plain-requires
     returns
+    has-bad-byte-requires
+    returns-2
     loop-holds
     shared-slice-read-b
     byte-behind-requires
     may-stand-requires
-    returns-2
+    returns-3
     line-behind-requires
     add-i
     loop-less
     loop-again
-    returns-3)
+    returns-4)

@@ -4,11 +4,11 @@ use borrow.Author.Needs.{needs}
 use Rattle.text_lines.proofs.may_stand.Statement.{statement}
 use Rattle.text_lines.proofs.may_stand.Tie as tie
 
-within-requires : tie.Need-within-requires
-within-requires c κs = search needs
+is-plain-requires : tie.Need-is-plain-requires
+is-plain-requires c κs = search needs
 
 returns : tie.Need-returns
 returns c = search (needs, stands-is)
 
 pub may-stand-spec : {M : Type 1} → statement M
-may-stand-spec = tie.close (tie.spec within-requires returns)
+may-stand-spec = tie.close (tie.spec is-plain-requires returns)

@@ -1,4 +1,4 @@
--- The parts are found one `|` after another; what they are then goes by the table of sorts.
+-- The parts are found one `|` after another.
 use Rattle.text_scalars.proofs.Laws.{no-bar, one-bar, two-bars, four-bars, object-parts}
 use borrow.Author.Needs.{needs}
 use Rattle.text_scalars.proofs.object_parts_fit.Statement.{statement}
@@ -37,47 +37,44 @@ find-requires-4 c κs = search needs
 returns-4 : tie.Need-returns-4
 returns-4 c = search (needs, four-bars)
 
-sub-object-sort : tie.Need-sub-object-sort
-sub-object-sort c = search needs
+sub-object-fits : tie.Need-sub-object-fits
+sub-object-fits c = search needs
 
-part-object-sort-start : tie.Need-part-object-sort-start
-part-object-sort-start c = search needs
+part-object-fits-start : tie.Need-part-object-fits-start
+part-object-fits-start c = search needs
 
-part-object-sort-end : tie.Need-part-object-sort-end
-part-object-sort-end c = search needs
+part-object-fits-end : tie.Need-part-object-fits-end
+part-object-fits-end c = search needs
 
-object-sort-requires : tie.Need-object-sort-requires
-object-sort-requires c κs = search needs
+sub-object-fits-2 : tie.Need-sub-object-fits-2
+sub-object-fits-2 c = search needs
 
-sub-meets-sort : tie.Need-sub-meets-sort
-sub-meets-sort c = search needs
+part-object-fits-start-2 : tie.Need-part-object-fits-start-2
+part-object-fits-start-2 c = search needs
 
-part-meets-sort-start : tie.Need-part-meets-sort-start
-part-meets-sort-start c = search needs
+part-object-fits-end-2 : tie.Need-part-object-fits-end-2
+part-object-fits-end-2 c = search needs
 
-part-meets-sort-end : tie.Need-part-meets-sort-end
-part-meets-sort-end c = search needs
+sub-object-fits-3 : tie.Need-sub-object-fits-3
+sub-object-fits-3 c = search needs
 
-sub-meets-sort-2 : tie.Need-sub-meets-sort-2
-sub-meets-sort-2 c = search needs
+part-object-fits-start-3 : tie.Need-part-object-fits-start-3
+part-object-fits-start-3 c = search needs
 
-part-meets-sort-start-2 : tie.Need-part-meets-sort-start-2
-part-meets-sort-start-2 c = search needs
+part-object-fits-end-3 : tie.Need-part-object-fits-end-3
+part-object-fits-end-3 c = search needs
 
-part-meets-sort-end-2 : tie.Need-part-meets-sort-end-2
-part-meets-sort-end-2 c = search needs
+sub-object-fits-4 : tie.Need-sub-object-fits-4
+sub-object-fits-4 c = search needs
 
-sub-meets-sort-3 : tie.Need-sub-meets-sort-3
-sub-meets-sort-3 c = search needs
+part-object-fits-start-4 : tie.Need-part-object-fits-start-4
+part-object-fits-start-4 c = search needs
 
-part-meets-sort-start-3 : tie.Need-part-meets-sort-start-3
-part-meets-sort-start-3 c = search needs
+part-object-fits-end-4 : tie.Need-part-object-fits-end-4
+part-object-fits-end-4 c = search needs
 
-part-meets-sort-end-3 : tie.Need-part-meets-sort-end-3
-part-meets-sort-end-3 c = search needs
-
-meets-sort-requires : tie.Need-meets-sort-requires
-meets-sort-requires c κs = search needs
+object-fits-requires : tie.Need-object-fits-requires
+object-fits-requires c κs = search needs
 
 returns-5 : tie.Need-returns-5
 returns-5 c = search (needs, object-parts)
@@ -97,18 +94,17 @@ object-parts-fit-spec =
     add-name
     find-requires-4
     returns-4
-    sub-object-sort
-    part-object-sort-start
-    part-object-sort-end
-    object-sort-requires
-    sub-meets-sort
-    part-meets-sort-start
-    part-meets-sort-end
-    sub-meets-sort-2
-    part-meets-sort-start-2
-    part-meets-sort-end-2
-    sub-meets-sort-3
-    part-meets-sort-start-3
-    part-meets-sort-end-3
-    meets-sort-requires
+    sub-object-fits
+    part-object-fits-start
+    part-object-fits-end
+    sub-object-fits-2
+    part-object-fits-start-2
+    part-object-fits-end-2
+    sub-object-fits-3
+    part-object-fits-start-3
+    part-object-fits-end-3
+    sub-object-fits-4
+    part-object-fits-start-4
+    part-object-fits-end-4
+    object-fits-requires
     returns-5)

@@ -7,26 +7,26 @@ use Rattle.paper.specs.Rules.{repeated}
 use Rattle.file_fields.specs.Fields.{between}
 use Rattle.file_index.specs.Buckets.{Index}
 use Rattle.file_names.specs.Naming.{named, namesTo}
-use Rattle.file_names.proofs.Entering.{no-names, line-first, its-room, its-spacing, field-room, told-twice, index-on, line-on, told-all}
+use Rattle.file_names.proofs.Entering.{no-names, line-first, named-room, named-spacing, field-room, told-twice, index-on, line-on, told-all}
 use borrow.Author.Needs.{needs}
 use Rattle.file_names.proofs.indexes.index_all.Statement.{statement}
 use Rattle.file_names.proofs.indexes.index_all.Tie as tie
 
 abbrev Inv-loop : tie.InvT-loop
-Inv-loop t list n naming ix₀ names₀ i₀ ix names i = (i ≤ n) × (length ix ≡ length ix₀) × Index t ix names (namesTo (named naming) t list i) ×
+Inv-loop t list n end naming ix₀ names₀ i₀ ix names i = (i ≤ end) × (length ix ≡ length ix₀) × Index t ix names (namesTo (named naming) t list i) ×
     (repeated (named naming) (namesTo (named naming) t list i) (between t list i n) ≡ repeated (named naming) [] (between t list 0 n))
 
 abbrev μ-loop : tie.MeasureT-loop
-μ-loop t list n naming ix₀ names₀ i₀ ix names i = n - i
+μ-loop t list n end naming ix₀ names₀ i₀ ix names i = end - i
 
 loop-holds : tie.Need-loop-holds Inv-loop μ-loop
 loop-holds c = (search needs, search needs, search (needs, no-names), search (needs, line-first))
 
 enter-field-requires : tie.Need-enter-field-requires Inv-loop μ-loop
 enter-field-requires c κs = (
-  search (needs, its-room),
+  search (needs, named-room),
   (
-    search (needs, its-spacing),
+    search (needs, named-spacing),
     (search needs, search (needs, field-room (named (c .before .before .before .before .before .before .args .naming)))),
   ),
 )
@@ -35,7 +35,7 @@ enum-told : tie.Need-enum-told Inv-loop μ-loop
 enum-told c = search needs
 
 line-of-requires : tie.Need-line-of-requires Inv-loop μ-loop
-line-of-requires c κs = search (needs, its-room)
+line-of-requires c κs = search (needs, named-room)
 
 same-length : tie.Need-same-length Inv-loop μ-loop
 same-length c = search needs
@@ -57,8 +57,7 @@ loop-again c = (
   search needs,
   search needs,
   index-on (named (c .before .before .before .before .before .before .before .before .before .before
-      .before .before .args .naming)) _ _ _ _ (c .before .before .before .before .before .before .before .loop-test .taken) _ _
-      (c .before .before .before .before .before .enter-field .ensures .0) _ (search needs),
+      .before .before .args .naming)) _ _ _ _ _ (c .before .before .before .before .before .enter-field .ensures .0) _ (search needs),
   search (
     needs,
     line-on (named (c .before .before .before .before .before .before .before .before .before .before .before .before .args .naming)),
