@@ -3,12 +3,7 @@ pub mod Computing
 pub mod Example
 pub mod Texts
 pub mod Packed
-pub mod Refusals
-pub mod OfficeFiles
-pub mod LimitEdges
 pub mod NamedTwice
-pub mod UnknownNames
-pub mod UnboundVariables
 pub mod TwinPrincipals
 pub mod ByteClasses
 pub mod ScalarEdges
@@ -20,14 +15,9 @@ pub mod LookupEdges
 pub mod ProgramEdges
 pub mod JudgeEdges
 pub mod Matching
-pub mod AnswerNumbers
 pub mod ReportEdges
 pub mod Places
 pub mod Worked
 pub mod WorkedFilled
 pub mod WorkedPolicy
 pub mod WorkedWords
-pub mod TableRead
-pub mod TableFits
-pub mod WorkedNames
-pub mod WorkedEvents

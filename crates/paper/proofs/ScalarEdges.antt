@@ -6,9 +6,10 @@ use mathlib.Core.Bool.{Bool, true, false, cond}
 use mathlib.Core.List.{List, [], _∷_, _++_, map, flatMap}
 use lib.ListN.{replicate}
 use Rattle.paper.specs.declared.Kind.the-variants.{Subject, Object}
-use Rattle.paper.specs.declared.Scalar.the-variants.{PatternElement}
+use Rattle.paper.specs.declared.Scalar.the-variants.{DomainName, PatternElement}
 use Rattle.paper.specs.Common.{bytes}
 use Rattle.paper.specs.Scalars.{isDomainName, isVariable, isUid, isGid, isIdentifier, isLineNumber, isScalar}
+use Rattle.paper.specs.Lists.{listFault}
 use Rattle.paper.proofs.Computing.{computing}
 
 -- "GLOBAL and IO need path, line, name; HEAP and STACK_REGION path and line, name empty; STACK_FRAME path and name, line empty; OTHER any of the three, or none":
@@ -94,3 +95,14 @@ elements-of-a-pattern :
     ≡ (true ∷ true ∷ true ∷ true ∷ true ∷ replicate 7 false) ++ (true ∷ false ∷ [])
 unfolding computing
 elements-of-a-pattern = refl
+
+-- "Lists are `[]` or `[a, b]`, with one space after each comma and none elsewhere": what is wrong with a list of domain names
+lists-at-their-edges :
+    map (λ s. listFault DomainName (bytes s)) ("[]" ∷ "[a]" ∷ "[a, b]" ∷ "[a, b, ]" ∷ "[, a]" ∷ "[all]" ∷ []) ≡ 0 ∷ 0 ∷ 0 ∷ 5 ∷ 5 ∷ 5 ∷ []
+unfolding computing
+lists-at-their-edges = refl
+
+lists-not-so-spaced :
+    map (λ s. listFault DomainName (bytes s)) ("[a,b]" ∷ "[a,  b]" ∷ "[ a]" ∷ "[a ]" ∷ "[a, b,]" ∷ "[a b]" ∷ "a, b" ∷ "[a" ∷ "a]" ∷ "[" ∷ "" ∷ []) ≡ replicate 11 4
+unfolding computing
+lists-not-so-spaced = refl

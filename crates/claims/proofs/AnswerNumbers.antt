@@ -1,13 +1,12 @@
 -- The one number that a caller in C gets for each case of an answer, digit by digit as include/dovetenon.h lays it out: rest, class and value.
 use mathlib.Core.Path.{_≡_, refl}
 use mathlib.Core.List.{[], _∷_, map}
 use Rattle.paper.specs.declared.Reading.the-variants.{Accepted, Unread}
 use Rattle.paper.specs.declared.Filling.the-variants.{Written, Unfilled}
 use Rattle.paper.specs.declared.Verdict.the-variants.{Inside, Granted, Violation, Unjudged}
 use Rattle.paper.specs.declared.Report.the-variants.{Clear, Clash, Unreported}
 use Rattle.paper.specs.Answers.{readingPacked, fillingPacked, verdictPacked, reportPacked, nameParts, namePacked, unpacked, packed, clashRest}
 use Rattle.paper.specs.Common.{bytes}
-use Rattle.paper.specs.Lookup.{Stretch}
 
 readings : map readingPacked (Unread 4 12 ∷ Unread 2 0 ∷ Unread 4 65537 ∷ Accepted ∷ []) ≡ 0xC00010004 ∷ 0x10002 ∷ 0x1000100010004 ∷ 0x20000 ∷ []
 unfolding readingPacked packed

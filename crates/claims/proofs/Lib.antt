@@ -1,0 +1,10 @@
+pub mod Refusals
+pub mod LimitEdges
+pub mod UnboundVariables
+pub mod UnknownNames
+pub mod OfficeFiles
+pub mod TableRead
+pub mod TableFits
+pub mod WorkedNames
+pub mod WorkedEvents
+pub mod AnswerNumbers
