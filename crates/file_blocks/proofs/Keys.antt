@@ -68,7 +68,9 @@ module _ (list : List ℕ) (place key : ℕ) (l : isKey place key ≡ true) wher
       go : (b : Bool) → isKey place (placeIn list i) ≡ b → valueAt key (between t list (nextKey list place (i + 1) k) (i + 1 + k)) ≡ valueAt key (between t list (i + 1) (i + 1 + k))
           → valueAt key (between t list (cond b i (nextKey list place (i + 1) k)) (i + suc k)) ≡ valueAt key (between t list i (i + suc k))
       go true e on = refl
-      go false e on = let f : i + suc k ≡ i + 1 + k = omega arith in rw (f, between-more t list i (i + 1 + k) (omega arith)) (on ∙ passed t i (between t list (i + 1) (i + 1 + k)) (no-other (placeIn list i) e))
+      go false e on =
+          let f : i + suc k ≡ i + 1 + k = omega arith in
+          rw (f, between-more t list i (i + 1 + k) (omega arith)) (on ∙ passed t i (between t list (i + 1) (i + 1 + k)) (no-other (placeIn list i) e))
 
 -- the keys
 module _ (place : ℕ) where

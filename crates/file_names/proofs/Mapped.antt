@@ -58,7 +58,13 @@ module _ (t list : List ℕ) (n end : ℕ) (e : end ≡ mapsEnd list n) where
       let all : flatMap names (between t list 0 end) ≡ flatMap names (between t list 0 n) = rw e (as-in-maps t list (flatMap names) blind n) in
       record {
         within = within;
-        rest = no-length _ (omega (arith, ap length all, ap length (names-split t list names end n within), length-append (flatMap names (between t list 0 end)) (flatMap names (between t list end n))));
+        rest =
+            no-length _ (omega (
+              arith,
+              ap length all,
+              ap length (names-split t list names end n within),
+              length-append (flatMap names (between t list 0 end)) (flatMap names (between t list end n)),
+            ));
       }
 
   domains-end : (one other : ℕ) → one < principal → other < principal → NamesEnd (namedAt one other) t list n end

@@ -243,7 +243,8 @@ module _ (ws s : List ℕ) (event : Event) where
         → r ≡ someDescriptorGrants (policyIn ws) (map (descriptorIn ws) (countUp (first + before) these)) (event .target) (binding event) (allocationOf al event)
         → r ≡ (hasSubject ws k event && grantsAt (allocationOf al event) k)
     descriptors-grant first reads writes before these w r h d t f p q g x y e =
-        same-subject of (grantsAt (allocationOf al event) k) (hasSubject ws k event) told r h (rw (data-granted (event .access) (binding event) (allocationOf al event) k d, ← f, ← p, ← q, ← g, ← x, ← y, ← t) e)
+        same-subject of (grantsAt (allocationOf al event) k) (hasSubject ws k event) told r h
+        (rw (data-granted (event .access) (binding event) (allocationOf al event) k d, ← f, ← p, ← q, ← g, ← x, ← y, ← t) e)
 
   module _ (al : List ℕ) (from k n : ℕ) (counted : n ≡ entryCount ws) (same : left (allocationOf al event) k ≡ left (allocationOf al event) from) where
     pub data-ends : n ≤ k → GrantedFrom ws s event (allocationOf al event) from n

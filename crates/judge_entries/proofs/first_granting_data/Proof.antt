@@ -70,12 +70,13 @@ loop-again : tie.Need-loop-again Inv-loop μ-loop
 loop-again c =
     let counted = c .before .before .before .before .before .before .before .before .count .ensures .0 in
     let same = c .before .before .before .before .before .before .loop .inv .2 in
-    let below = c .before .before .before .before .before .loop-test .taken in (
+    let below = c .before .before .before .before .before .loop-test .taken in
+    let placed = c .before .before .before .before .before .before .before .before .before .before .before .before .before .pre .1 .0 in (
       search (needs, sum-again, both-counts),
       search needs,
       ⊎-elim
           (λ w. data-not-matched _ _ _ _ _ _ _ counted same below _ (w .1 .ensures) (w .2 .left))
-          (λ w. data-not-granted _ _ _ _ _ _ _ counted same below (c .before .before .before .before .before .before .before .before .before .before .before .before .before .pre .1 .0) _ (c .before .data-granted .ensures) (w .left))
+          (λ w. data-not-granted _ _ _ _ _ _ _ counted same below placed _ (c .before .data-granted .ensures) (w .left))
           (c .if1 .came),
     )
 

@@ -53,7 +53,9 @@ loop-less c = search needs
 
 loop-again : tie.Need-loop-again Inv-loop μ-loop
 loop-again c =
-    let sum-told = principal-summed _ _ _ _ (c .before .before .before .before .before .entry-at .ensures) (c .before .before .before .before .part .ensures) _ (c .before .before .before .weighed .ensures) in
+    let at = c .before .before .before .before .before .entry-at .ensures in
+    let taken = c .before .before .before .before .part .ensures in
+    let sum-told = principal-summed _ _ _ _ at taken _ (c .before .before .before .weighed .ensures) in
     let below : c .before .before .before .before .before .before .before .loop .k < mostEntries = search needs in
     (search needs, summed-more _ _ _ (c .before .before .before .before .before .before .before .loop .inv .1) _ sum-told below, search (needs, tests-again))
 
