@@ -3,17 +3,19 @@ use mathlib.Core.Path.{_≡_, refl, sym, ap, _∙_}
 use mathlib.Core.Bool.{Bool, true, false, cond, _||_}
 use mathlib.Core.List.{List}
 use Prim.Native.Nat.{ℕ, zero, suc, _+_, _*_, _-_, _/_, _%_, _^_, _<_, _≤_}
-use native.Mathlib.Nat.{mul-le-mul}
+use native.Mathlib.Nat.{add-assoc, mul-comm, add-mul, mul-assoc, mul-le-mul, mod-add-mod, div-add-mod, add-mul-mod-self-left}
 use native.Mathlib.Omega.{arith}
 use lib.Dec.{ltb, leb}
 use lib.ListN.{length, getD, take, drop, set, drop-of-length-le}
+use mir.Syntax.{w8, w64}
+use mir.Val.{Fits}
 use borrow.Author.Tests.{eq-eqb, ne-eqb, lt-ltb, le-ltb, lt-leb, le-leb}
 use Rattle.paper.specs.Common.{same}
 use Rattle.laws.proofs.Tests.{either-right}
 use Rattle.laws.proofs.Places.{drop-more}
 use Rattle.file_index.specs.Words.{headsAt, buckets, startAt, endAt, hashAt, linksAt, links, nameAt}
 use Rattle.file_index.specs.Words.{startIn, endIn, hashIn, multiplierIn, linkIn}
-use Rattle.file_index.specs.Buckets.{multipliers, hashes, spread, bucketSize, hashFrom, hashOf, bucketOf, isName, turnOf}
+use Rattle.file_index.specs.Buckets.{multipliers, hashes, spread, bucketSize, hashFrom, hashOf, twoAt, bucketOf, isName, turnOf}
 use Rattle.file_index.specs.Buckets.{Place, Found, Free, wayEndFrom, wayEnd, placeNumber, Within, numberOf, numbersIn, wordOf, insertedAt}
 
 -- ---- the hash
@@ -21,10 +23,96 @@ use Rattle.file_index.specs.Buckets.{Place, Found, Free, wayEndFrom, way
 pub product-below : (h m : ℕ) → h < hashes → h * (m % multipliers) ≤ hashes * multipliers
 product-below h m l = mul-le-mul {n₁ = h} {m₁ = m % multipliers} {n₂ = hashes} {m₂ = multipliers} (omega arith) (omega arith)
 
+-- a remainder that is multiplied and added to may stand for its number
+digit-mod : (x s b k : ℕ) → (x % k * s + b) % k ≡ (x * s + b) % k
+digit-mod x s b k =
+    let whole : x * s + b ≡ x % k * s + b + k * (x / k * s) =
+    ap (λ z. z * s + b) (sym (div-add-mod x k)) ∙ ap (λ z. z + b) (add-mul (k * (x / k)) (x % k) s ∙ ap (λ z. z + x % k * s) (mul-assoc k (x / k) s)) ∙ last (k * (x / k * s)) (x % k * s) b in
+    sym (ap (λ z. z % k) whole ∙ add-mul-mod-self-left (x % k * s + b) k (x / k * s))
+  where
+    last : (u v w : ℕ) → u + v + w ≡ v + w + u
+    last u v w = omega arith
+
+-- two digits are one of the multiplier's square
+two-digits : (h s a b k : ℕ) → ((h * s + a) % k * s + b) % k ≡ (h * (s * s % k) + (a * s + b)) % k
+two-digits h s a b k =
+    digit-mod (h * s + a) s b k
+    ∙ ap (λ z. z % k) (ap (λ z. z + b) (add-mul (h * s) a s ∙ ap (λ z. z + a * s) (mul-assoc h s s)) ∙ add-assoc (h * (s * s)) (a * s) b)
+    ∙ ap (λ z. (z + (a * s + b)) % k) (mul-comm h (s * s))
+    ∙ sym (digit-mod (s * s) h (a * s + b) k)
+    ∙ ap (λ z. (z + (a * s + b)) % k) (mul-comm (s * s % k) h)
+
+-- four digits are two of the square
+four-digits : (h s a b c d k : ℕ)
+    → ((((h * s + a) % k * s + b) % k * s + c) % k * s + d) % k
+    ≡ (h * (s * s % k * (s * s % k) % k) % k + (a * s + b) * (s * s % k) % k + (c * s + d)) % k
+four-digits h s a b c d k =
+    two-digits (((h * s + a) % k * s + b) % k) s c d k
+    ∙ ap (λ z. (z * (s * s % k) + (c * s + d)) % k) (two-digits h s a b k)
+    ∙ two-digits h (s * s % k) (a * s + b) (c * s + d) k
+    ∙ sums (h * (s * s % k * (s * s % k) % k)) ((a * s + b) * (s * s % k)) (c * s + d)
+  where
+    sums : (u v w : ℕ) → (u + (v + w)) % k ≡ (u % k + v % k + w) % k
+    sums u v w =
+        sym (ap (λ z. z % k) (add-assoc (u % k) (v % k) w) ∙ mod-add-mod u k (v % k + w) ∙ ap (λ z. z % k) (turned u (v % k) w)
+        ∙ mod-add-mod v k (u + w) ∙ ap (λ z. z % k) (turned v u w))
+      where
+        turned : (x y z : ℕ) → x + (y + z) ≡ y + (x + z)
+        turned x y z = omega arith
+
+pub product-fits : (a b : ℕ) → a < hashes → b < hashes → Fits w64 (a * b)
+product-fits a b l k =
+    let most : a * b ≤ 4294967295 * 4294967295 = mul-le-mul {n₁ = a} {m₁ = b} {n₂ = 4294967295} {m₂ = 4294967295} (omega arith) (omega arith) in
+    omega (arith, most)
+
+pub hash-below : (x : ℕ) → x % hashes < hashes
+hash-below x = omega arith
+
+pub step-below : (m : ℕ) → m % multipliers < hashes
+step-below m = omega arith
+
+pub byte-product : (a step : ℕ) → Fits w8 a → step < multipliers → a * step ≤ 255 * 1048576
+byte-product a step l k = mul-le-mul {n₁ = a} {m₁ = step} {n₂ = 255} {m₂ = 1048576} (omega arith) (omega arith)
+
+four-opened : (m : ℕ) (name : List ℕ) (h i : ℕ) → i + 4 ≤ length name
+    → hashFrom m h (drop i name)
+    ≡ hashFrom m (((((h * (m % multipliers) + getD name i 0) % hashes * (m % multipliers) + getD name (i + 1) 0) % hashes * (m % multipliers)
+    + getD name (i + 2) 0) % hashes * (m % multipliers) + getD name (i + 3) 0) % hashes) (drop (i + 4) name)
+unfolding hashFrom
+four-opened m name h i l =
+    let two : i + 1 + 1 ≡ i + 2 = omega arith in
+    let three : i + 2 + 1 ≡ i + 3 = omega arith in
+    let four : i + 3 + 1 ≡ i + 4 = omega arith in
+    rw (
+      drop-more name i (omega arith),
+      drop-more name (i + 1) (omega arith),
+      two,
+      drop-more name (i + 2) (omega arith),
+      three,
+      drop-more name (i + 3) (omega arith),
+      four,
+    )
+
 module _ (m : ℕ) (name : List ℕ) (h i : ℕ) (inv : hashFrom m h (drop i name) ≡ hashOf m name) where
   pub hash-again : i < length name → hashFrom m ((h * (m % multipliers) + getD name i 0) % hashes) (drop (i + 1) name) ≡ hashOf m name
   unfolding hashFrom
   hash-again l = rw (← inv, drop-more name i l)
+
+  pub four-more : (x y : ℕ) → i + 4 ≤ length name → x ≡ twoAt (m % multipliers) name i → y ≡ twoAt (m % multipliers) name (i + 2)
+      → hashFrom m ((h * (m % multipliers * (m % multipliers) % hashes * (m % multipliers * (m % multipliers) % hashes) % hashes) % hashes
+      + x * (m % multipliers * (m % multipliers) % hashes) % hashes + y) % hashes) (drop (i + 4) name) ≡ hashOf m name
+  four-more x y l e f =
+      let three : i + 2 + 1 ≡ i + 3 = omega arith in
+      let last : y ≡ getD name (i + 2) 0 * (m % multipliers) + getD name (i + 3) 0 =
+      f ∙ ap (λ z. getD name (i + 2) 0 * (m % multipliers) + getD name z 0) three in
+      let digits : _ ≡ _ =
+      four-digits h (m % multipliers) (getD name i 0) (getD name (i + 1) 0) (getD name (i + 2) 0) (getD name (i + 3) 0) hashes in
+      rw (e, last, ← digits, ← four-opened m name h i l) inv
+
+  pub fours-end : length name < i + 4 → 4 * (i / 4) ≡ i → i ≤ length name → hashFrom m h (drop (length name / 4 * 4) name) ≡ hashOf m name
+  fours-end l e k =
+      let same : length name / 4 * 4 ≡ i = omega arith in
+      rw same inv
 
   pub hash-ends : length name ≤ i → h ≡ hashOf m name
   unfolding hashFrom

@@ -39,6 +39,10 @@ hashFrom m h (b ∷ bs) = hashFrom m ((h * (m % multipliers) + b) % hashes) bs
 abbrev pub hashOf : ℕ → List ℕ → ℕ
 hashOf m name = hashFrom m 0 name
 
+-- the two bytes of a name from a place on, as one number
+abbrev pub twoAt : ℕ → List ℕ → ℕ → ℕ
+twoAt step name i = getD name i 0 * step + getD name (i + 1) 0
+
 -- the bucket that names of hash h are in
 unfoldable pub bucketOf : ℕ → ℕ
 bucketOf h = h % hashes * spread % hashes / bucketSize

@@ -4,10 +4,10 @@
 pub mod layout;
 
 ghost use mathlib.Core.Path.{_≡_};
-ghost use Prim.Native.Nat.{_+_, _*_, _<_, _≤_};
-ghost use lib.ListN.{length};
+ghost use Prim.Native.Nat.{_+_, _*_, _/_, _<_, _≤_};
+ghost use lib.ListN.{length, drop};
 ghost use Rattle.file_index.specs.Words.{buckets, namesAt, nameSize, links, multiplierIn};
-ghost use Rattle.file_index.specs.Buckets.{hashes, hashOf, bucketOf, turnOf, isName, wayEnd, placeNumber, Within, numbersIn, insertedAt};
+ghost use Rattle.file_index.specs.Buckets.{multipliers, hashes, hashFrom, hashOf, twoAt, bucketOf, turnOf, isName, wayEnd, placeNumber, Within, numbersIn, insertedAt};
 
 // The multiplier of hashes: whoever clears an index puts it into its first word.
 pub const MULTIPLIER: usize = 65599;
@@ -20,12 +20,37 @@ const SPREAD: usize = 2654435769;
 
 const BUCKET_SIZE: usize = 4194304;
 
+// Two bytes as one number.
+fn two_at(step: usize, name: &[u8], i: usize) -> usize
+    requires { ⌜ (i + 2 ≤ length (now name)) × (step < multipliers) ⌝ }
+    ensures { λ r. ⌜ (r ≡ twoAt step (now (name .entry)) i) × (r < hashes) ⌝ }
+{
+    (name[i] as usize) * step + (name[i + 1] as usize)
+}
+
+// The hash of all but the last bytes, less than four. Four are taken at a time, by powers of the multiplier: so they do not wait for one another.
+fn hash_fours(m: usize, name: &[u8]) -> usize
+    ensures { λ r. ⌜ (hashFrom m r (drop (length (now (name .entry)) / 4 * 4) (now (name .entry))) ≡ hashOf m (now (name .entry))) × (r < hashes) ⌝ }
+{
+    let step = m % MULTIPLIERS;
+    let square = step * step % HASHES;
+    let fourth = square * square % HASHES;
+    let mut h: usize = 0;
+    let mut i: usize = 0;
+    while i + 4 <= name.len() {
+        let front = h * fourth % HASHES + two_at(step, name, i) * square % HASHES;
+        h = (front + two_at(step, name, i + 2)) % HASHES;
+        i += 4;
+    }
+    h
+}
+
 pub fn hash(m: usize, name: &[u8]) -> usize
     ensures { λ r. ⌜ (r ≡ hashOf m (now (name .entry))) × (r < hashes) ⌝ }
 {
     let step = m % MULTIPLIERS;
-    let mut h: usize = 0;
-    let mut i: usize = 0;
+    let mut h = hash_fours(m, name);
+    let mut i = name.len() / 4 * 4;
     while i < name.len() {
         h = (h * step + (name[i] as usize)) % HASHES;
         i += 1;

@@ -1,4 +1,4 @@
--- The loop: the hash so far, gone on over the bytes that are left, is the hash of all.
+-- The loop goes on behind the last four bytes: the hash so far, gone on over the bytes that are left, is the hash of all.
 use mathlib.Core.Path.{_≡_}
 use Prim.Native.Nat.{_-_, _<_}
 use native.Mathlib.Omega.{arith}
@@ -15,22 +15,28 @@ Inv-loop m name step h₀ i₀ h i = (hashFrom m h (drop i name) ≡ hashOf m na
 abbrev μ-loop : tie.MeasureT-loop
 μ-loop m name step h₀ i₀ h i = length name - i
 
+hash-fours-requires : tie.Need-hash-fours-requires Inv-loop μ-loop
+hash-fours-requires c κs = search needs
+
+mul-i : tie.Need-mul-i Inv-loop μ-loop
+mul-i c = search needs
+
 loop-holds : tie.Need-loop-holds Inv-loop μ-loop
 loop-holds c = search needs
 
 mul-h : tie.Need-mul-h Inv-loop μ-loop
-mul-h c = omega (arith, product-below (c .before .loop .h) (c .before .before .args .m) (c .before .loop .inv .1))
+mul-h c = omega (arith, product-below (c .before .loop .h) (c .before .before .before .before .args .m) (c .before .loop .inv .1))
 
 shared-slice-read-h : tie.Need-shared-slice-read-h Inv-loop μ-loop
 shared-slice-read-h c = search needs
 
 cast-h : tie.Need-cast-h Inv-loop μ-loop
-cast-h c = omega (arith, c .shared-slice-known .given (c .before .before .loop .i))
+cast-h c = omega (arith, c .shared-slice-known2 .given (c .before .before .loop .i))
 
 add-h : tie.Need-add-h Inv-loop μ-loop
 add-h c =
     omega
-    (arith, product-below (c .before .before .loop .h) (c .before .before .before .args .m) (c .before .before .loop .inv .1), c .shared-slice-known .given (c .before .before .loop .i))
+    (arith, product-below (c .before .before .loop .h) (c .before .before .before .before .before .args .m) (c .before .before .loop .inv .1), c .shared-slice-known2 .given (c .before .before .loop .i))
 
 add-i : tie.Need-add-i Inv-loop μ-loop
 add-i c = search needs
@@ -50,6 +56,8 @@ hash-spec =
     (tie.spec
     Inv-loop
     μ-loop
+    hash-fours-requires
+    mul-i
     loop-holds
     mul-h
     shared-slice-read-h
