@@ -76,7 +76,7 @@ fn write_keys(
 // The context at a place, among the fields from one number up to another.
 fn write_found(
     t: &[u8],
-    list: &[usize],
+    list: &[u32],
     words: &[u16],
     starts: &[usize],
     place: usize,
@@ -104,7 +104,7 @@ fn is_key(place: usize, p: usize) -> bool
 }
 
 // The number of the next field at a key of the context at a place; where there is none, the other number.
-fn next_key(list: &[usize], place: usize, from: usize, to: usize) -> usize
+fn next_key(list: &[u32], place: usize, from: usize, to: usize) -> usize
     requires { ⌜ (fieldSize * to ≤ length (now list)) × IsContext place ⌝ }
     ensures { λ r. ⌜ r ≡ nextKey (now (list .entry)) place from (to - from) ⌝ }
 {
@@ -121,7 +121,7 @@ fn next_key(list: &[usize], place: usize, from: usize, to: usize) -> usize
 // The same: most contexts have no key, and one is looked for first.
 fn write_context(
     t: &[u8],
-    list: &[usize],
+    list: &[u32],
     words: &[u16],
     starts: &[usize],
     place: usize,
@@ -164,7 +164,7 @@ fn put_domains(s: &[u16], n: usize, domains: &mut [u16])
 }
 
 // Field i grants every domain: it is `all`, or omitted, and there is no such field.
-fn is_every(t: &[u8], list: &[usize], i: usize, to: usize) -> bool
+fn is_every(t: &[u8], list: &[u32], i: usize, to: usize) -> bool
     requires { ⌜ fieldSize * to ≤ length (now list) ⌝ }
     ensures { λ r. ⌜ r ≡ everyIn (now (t .entry)) (now (list .entry)) i to ⌝ }
 {
@@ -177,7 +177,7 @@ fn is_every(t: &[u8], list: &[usize], i: usize, to: usize) -> bool
 // The grant at a place, among the fields from one number up to another, by the words of its domains, of which the map has so many.
 fn write_grant(
     t: &[u8],
-    list: &[usize],
+    list: &[u32],
     words: &[u16],
     starts: &[usize],
     place: usize,
@@ -202,7 +202,7 @@ fn write_grant(
 // Of an entry, its subject's number and how many descriptors it has.
 fn write_counts(
     t: &[u8],
-    list: &[usize],
+    list: &[u32],
     from: usize,
     to: usize,
     ix: &[usize],
@@ -224,7 +224,7 @@ fn write_counts(
 // The words of an entry: its fields are those from one number up to another of the file's n.
 pub fn write_entry(
     t: &[u8],
-    list: &[usize],
+    list: &[u32],
     n: usize,
     words: &[u16],
     starts: &[usize],
@@ -282,7 +282,7 @@ pub fn write_entry(
 // the descriptor of an `all`.
 pub fn write_descriptor(
     t: &[u8],
-    list: &[usize],
+    list: &[u32],
     n: usize,
     words: &[u16],
     starts: &[usize],

@@ -25,7 +25,7 @@ const HASHES: usize = 4294967296;
 const STARTS: usize = limit::ENTRIES + 1;
 
 // Field i stands at this key of an object context.
-fn is_object_key(list: &[usize], key: usize, i: usize) -> bool
+fn is_object_key(list: &[u32], key: usize, i: usize) -> bool
     requires { ⌜ fieldSize * (i + 1) ≤ length (now list) ⌝ }
     requires { ⌜ key < contextPlaces ⌝ }
     ensures { λ r. ⌜ r ≡ anyOf (eqb (placeIn (now (list .entry)) i)) (inObjectContexts (keyIn key)) ⌝ }
@@ -34,7 +34,7 @@ fn is_object_key(list: &[usize], key: usize, i: usize) -> bool
     (place == rows::READ_CONTEXT + key) | (place == rows::WRITE_CONTEXT + key)
 }
 
-fn holds_variable(t: &[u8], list: &[usize], i: usize) -> bool
+fn holds_variable(t: &[u8], list: &[u32], i: usize) -> bool
     requires { ⌜ fieldSize * (i + 1) ≤ length (now list) ⌝ }
     ensures { λ r. ⌜ r ≡ isVariable (valueIn (now (t .entry)) (now (list .entry)) i) ⌝ }
 {
@@ -42,7 +42,7 @@ fn holds_variable(t: &[u8], list: &[usize], i: usize) -> bool
 }
 
 // Field i has the value that the entry has at a place.
-fn is_own(t: &[u8], list: &[usize], place: usize, i: usize, from: usize, to: usize) -> bool
+fn is_own(t: &[u8], list: &[u32], place: usize, i: usize, from: usize, to: usize) -> bool
     requires { ⌜ fieldSize * (i + 1) ≤ length (now list) ⌝ }
     requires { ⌜ fieldSize * to ≤ length (now list) ⌝ }
     requires { ⌜ bytes "all" ≡ defaultAt place ⌝ }
@@ -53,7 +53,7 @@ fn is_own(t: &[u8], list: &[usize], place: usize, i: usize, from: usize, to: usi
 }
 
 // Field i has a variable at a key of an object context, and it is not the one of the entry's same key.
-fn is_unbound_key(t: &[u8], list: &[usize], key: usize, i: usize, from: usize, to: usize) -> bool
+fn is_unbound_key(t: &[u8], list: &[u32], key: usize, i: usize, from: usize, to: usize) -> bool
     requires { ⌜ fieldSize * (i + 1) ≤ length (now list) ⌝ }
     requires { ⌜ fieldSize * to ≤ length (now list) ⌝ }
     requires { ⌜ key < contextPlaces ⌝ }
@@ -70,7 +70,7 @@ fn is_unbound_key(t: &[u8], list: &[usize], key: usize, i: usize, from: usize, t
 }
 
 // Most fields stand at no key of an object context: they are told by their place alone.
-fn is_unbound(t: &[u8], list: &[usize], i: usize, from: usize, to: usize) -> bool
+fn is_unbound(t: &[u8], list: &[u32], i: usize, from: usize, to: usize) -> bool
     requires { ⌜ fieldSize * (i + 1) ≤ length (now list) ⌝ }
     requires { ⌜ fieldSize * to ≤ length (now list) ⌝ }
     ensures { λ r. ⌜ r ≡ isUnbound (between (now (t .entry)) (now (list .entry)) from to) (fieldAt (now (t .entry)) (now (list .entry)) i) ⌝ }
@@ -84,7 +84,7 @@ fn is_unbound(t: &[u8], list: &[usize], i: usize, from: usize, to: usize) -> boo
 }
 
 // 10 in one entry.
-fn entry_unbound_line(t: &[u8], list: &[usize], from: usize, to: usize) -> usize
+fn entry_unbound_line(t: &[u8], list: &[u32], from: usize, to: usize) -> usize
     requires { ⌜ fieldSize * to ≤ length (now list) ⌝ }
     ensures { λ r. ⌜ r ≡ firstWith (isUnbound (between (now (t .entry)) (now (list .entry)) from to)) (between (now (t .entry)) (now (list .entry)) from to) ⌝ }
 {
@@ -99,7 +99,7 @@ fn entry_unbound_line(t: &[u8], list: &[usize], from: usize, to: usize) -> usize
 }
 
 // 10 over the whole file: the smallest line, or none.
-pub fn unbound_line(t: &[u8], list: &[usize], n: usize) -> usize
+pub fn unbound_line(t: &[u8], list: &[u32], n: usize) -> usize
     requires { ⌜ fieldSize * n ≤ length (now list) ⌝ }
     ensures { λ r. ⌜ r ≡ unboundVariable (between (now (t .entry)) (now (list .entry)) 0 n) ⌝ }
 {
@@ -115,7 +115,7 @@ pub fn unbound_line(t: &[u8], list: &[usize], n: usize) -> usize
 
 fn hash_at<'a>(
     t: &'a [u8],
-    list: &[usize],
+    list: &[u32],
     place: usize,
     from: usize,
     to: usize,
@@ -129,7 +129,7 @@ fn hash_at<'a>(
     file_index::hash(file_index::MULTIPLIER, v)
 }
 
-fn sort_at(t: &[u8], list: &[usize], place: usize, from: usize, to: usize) -> usize
+fn sort_at(t: &[u8], list: &[u32], place: usize, from: usize, to: usize) -> usize
     requires { ⌜ fieldSize * to ≤ length (now list) ⌝ }
     requires { ⌜ bytes "all" ≡ defaultAt place ⌝ }
     ensures { λ r. ⌜ (r ≡ sortAt place (between (now (t .entry)) (now (list .entry)) from to)) × (r < sorts) ⌝ }
@@ -139,7 +139,7 @@ fn sort_at(t: &[u8], list: &[usize], place: usize, from: usize, to: usize) -> us
 }
 
 // A number that equal principals have in common.
-fn principal_hash(t: &[u8], list: &[usize], from: usize, to: usize) -> u32
+fn principal_hash(t: &[u8], list: &[u32], from: usize, to: usize) -> u32
     requires { ⌜ fieldSize * to ≤ length (now list) ⌝ }
     ensures { λ r. ⌜ r ≡ principalHash (between (now (t .entry)) (now (list .entry)) from to) ⌝ }
 {
@@ -154,7 +154,7 @@ fn principal_hash(t: &[u8], list: &[usize], from: usize, to: usize) -> u32
 
 fn same_value<'a>(
     t: &'a [u8],
-    list: &[usize],
+    list: &[u32],
     place: usize,
     from: usize,
     to: usize,
@@ -174,7 +174,7 @@ fn same_value<'a>(
 
 fn same_sort(
     t: &[u8],
-    list: &[usize],
+    list: &[u32],
     place: usize,
     from: usize,
     to: usize,
@@ -190,14 +190,7 @@ fn same_sort(
 }
 
 // Two entries, each from a number up to another, have the same principal.
-fn same_principal(
-    t: &[u8],
-    list: &[usize],
-    from: usize,
-    to: usize,
-    start: usize,
-    end: usize,
-) -> bool
+fn same_principal(t: &[u8], list: &[u32], from: usize, to: usize, start: usize, end: usize) -> bool
     requires { ⌜ fieldSize * to ≤ length (now list) ⌝ }
     requires { ⌜ fieldSize * end ≤ length (now list) ⌝ }
     ensures { λ r. ⌜ r ≡ samePrincipal (between (now (t .entry)) (now (list .entry)) from to) (between (now (t .entry)) (now (list .entry)) start end) ⌝ }
@@ -220,7 +213,7 @@ fn same_principal(
 }
 
 // Entries a and b have the same principal. Hashes are compared first since they nearly always tell.
-fn are_twins(t: &[u8], list: &[usize], starts: &[usize], hashes: &[u32], a: usize, b: usize) -> bool
+fn are_twins(t: &[u8], list: &[u32], starts: &[usize], hashes: &[u32], a: usize, b: usize) -> bool
     requires { ⌜ Hashed (now t) (now list) (now starts) (now hashes) a ⌝ }
     requires { ⌜ Hashed (now t) (now list) (now starts) (now hashes) b ⌝ }
     ensures { λ r. ⌜ r ≡ samePrincipal (entryIn (now (t .entry)) (now (list .entry)) (now (starts .entry)) a) (entryIn (now (t .entry)) (now (list .entry)) (now (starts .entry)) b) ⌝ }
@@ -249,7 +242,7 @@ fn is_new_hash(hashes: &[u32], k: usize) -> bool
 }
 
 // Entry k has the principal of one before it.
-fn has_twin(t: &[u8], list: &[usize], starts: &[usize], hashes: &[u32], k: usize) -> bool
+fn has_twin(t: &[u8], list: &[u32], starts: &[usize], hashes: &[u32], k: usize) -> bool
     requires { ⌜ AllHashed (now t) (now list) (now starts) (now hashes) (k + 1) ⌝ }
     ensures { λ r. ⌜ r ≡ anyOf (samePrincipal (entryIn (now (t .entry)) (now (list .entry)) (now (starts .entry)) k)) (entriesBelow (now (t .entry)) (now (list .entry)) (now (starts .entry)) k) ⌝ }
 {
@@ -267,7 +260,7 @@ fn has_twin(t: &[u8], list: &[usize], starts: &[usize], hashes: &[u32], k: usize
 }
 
 // 11 over the whole file: the later entry's line, or none.
-pub fn twin_line(t: &[u8], list: &[usize], n: usize) -> usize
+pub fn twin_line(t: &[u8], list: &[u32], n: usize) -> usize
     requires { ⌜ fieldSize * n ≤ length (now list) ⌝ }
     requires { ⌜ length (entriesOf (between (now t) (now list) 0 n)) ≤ mostEntries ⌝ }
     ensures { λ r. ⌜ r ≡ twinPrincipal (between (now (t .entry)) (now (list .entry)) 0 n) ⌝ }

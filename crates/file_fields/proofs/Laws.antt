@@ -55,7 +55,7 @@ module _ (list : List ℕ) (place i from to count one : ℕ) (e : one ≡ oneIn 
   pub count-low : count + one + from ≤ i + 1
   count-low = omega (arith, one-little list place i one e)
 
-  pub count-fits : length list * 8 < 2 ^ 63 → fieldSize * to ≤ length list → Fits w64 (count + one)
+  pub count-fits : length list * 4 < 2 ^ 63 → fieldSize * to ≤ length list → Fits w64 (count + one)
   count-fits l m = omega (arith, one-little list place i one e)
 
 module _ (list : List ℕ) (place i to count n : ℕ) where

@@ -10,7 +10,7 @@ use Rattle.paper.specs.Page as paper
 use Rattle.paper.specs.Page.{Outcome, fields, fault, andFields, beforeFirst, pageOf}
 use Rattle.paper.specs.Rules.{unlessLine}
 use Rattle.paper.specs.Promises.{textPage}
-use Rattle.text_page.specs.Walk.{atStart, pageLeft, pageNext, Within}
+use Rattle.text_page.specs.Walk.{atStart, pageLeft, pageNext, places, Within}
 use Rattle.text_page.specs.declared.Cursor.{Cursor}
 use Rattle.text_page.specs.declared.Next as next
 use Rattle.text_page.specs.declared.Next.the-variants.{Field, End, Fault}
@@ -66,6 +66,18 @@ module _ (t list : List ℕ) (c d : Cursor) (r : next.Next) (w : Within t (c .at
   module _ (whole : ℕ) (h : 8 * n ≤ c .at) (small : length t ≤ 65536) (big : fieldSize * mostFields ≤ whole) (same : length list ≡ whole) where
     pub room-left : fieldSize * (n + 1) ≤ length list
     room-left = omega (arith, field-within .2, field-within .3)
+
+    pub line-few : l ≤ 65536
+    line-few = omega (arith, field-within .6)
+
+    pub place-few : p < places
+    place-few = field-within .7
+
+    pub start-few : a ≤ 65536
+    start-few = omega (arith, field-within .0, field-within .1)
+
+    pub end-few : b ≤ 65536
+    end-few = omega (arith, field-within .1)
 
     module _ (list′ : List ℕ) (e : list′ ≡ withField list n l p a b) where
       pub keeps-length : length list′ ≡ whole

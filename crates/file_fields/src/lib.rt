@@ -6,7 +6,7 @@ use paper::refusal;
 use text_keys::rows;
 use text_page::Next;
 ghost use mathlib.Core.Path.{_≡_};
-ghost use Prim.Native.Nat.{_+_, _-_, _*_, _≤_};
+ghost use Prim.Native.Nat.{_+_, _-_, _*_, _<_, _≤_};
 ghost use lib.Dec.{eqb};
 ghost use lib.ListN.{length};
 ghost use Rattle.paper.specs.Common.{anyOf};
@@ -15,6 +15,7 @@ ghost use Rattle.paper.specs.Page.{pageOf};
 ghost use Rattle.paper.specs.Entries.{callContexts};
 ghost use Rattle.paper.specs.Rules.{earlier, descriptorsOf};
 ghost use Rattle.paper.specs.Promises.{textPage};
+ghost use Rattle.text_page.specs.Walk.{places};
 ghost use Rattle.file_fields.specs.Fields.{fieldSize, placeIn, lineIn, startIn, valueIn, between, withField, nextAt, mapsEnd, oneIn, countAt, valueOr};
 ghost use Rattle.file_fields.specs.Places.{IsAccess};
 ghost use Rattle.file_fields.specs.Listed.{mostFields, foundIn, Holds};
@@ -38,52 +39,53 @@ pub enum Found {
 }
 
 // The place of field i.
-pub fn place_of(list: &[usize], i: usize) -> usize
+pub fn place_of(list: &[u32], i: usize) -> usize
     requires { ⌜ fieldSize * (i + 1) ≤ length (now list) ⌝ }
     ensures { λ r. ⌜ r ≡ placeIn (now (list .entry)) i ⌝ }
 {
-    list[FIELD_SIZE * i]
+    list[FIELD_SIZE * i] as usize
 }
 
 // The line of field i.
-pub fn line_of(list: &[usize], i: usize) -> usize
+pub fn line_of(list: &[u32], i: usize) -> usize
     requires { ⌜ fieldSize * (i + 1) ≤ length (now list) ⌝ }
     ensures { λ r. ⌜ r ≡ lineIn (now (list .entry)) i ⌝ }
 {
-    list[FIELD_SIZE * i + LINE_AT]
+    list[FIELD_SIZE * i + LINE_AT] as usize
 }
 
 // Where the value of field i starts in the text.
-pub fn start_of(list: &[usize], i: usize) -> usize
+pub fn start_of(list: &[u32], i: usize) -> usize
     requires { ⌜ fieldSize * (i + 1) ≤ length (now list) ⌝ }
     ensures { λ r. ⌜ r ≡ startIn (now (list .entry)) i ⌝ }
 {
-    list[FIELD_SIZE * i + START_AT]
+    list[FIELD_SIZE * i + START_AT] as usize
 }
 
 // The value of field i.
-pub fn value_of<'a>(t: &'a [u8], list: &[usize], i: usize) -> &'a [u8]
+pub fn value_of<'a>(t: &'a [u8], list: &[u32], i: usize) -> &'a [u8]
     requires { ⌜ fieldSize * (i + 1) ≤ length (now list) ⌝ }
     ensures { λ r. ⌜ now r ≡ valueIn (now (t .entry)) (now (list .entry)) i ⌝ }
 {
-    let start = list[FIELD_SIZE * i + START_AT];
-    let end = list[FIELD_SIZE * i + END_AT];
+    let start = list[FIELD_SIZE * i + START_AT] as usize;
+    let end = list[FIELD_SIZE * i + END_AT] as usize;
     text_bytes::part(t, start, end)
 }
 
 // One field more, as number i.
-fn put_field(list: &mut [usize], i: usize, line: usize, place: usize, start: usize, end: usize)
+fn put_field(list: &mut [u32], i: usize, line: usize, place: usize, start: usize, end: usize)
     requires { ⌜ fieldSize * (i + 1) ≤ length (now list) ⌝ }
+    requires { ⌜ (line ≤ textBytes) × (place < places) × (start ≤ textBytes) × (end ≤ textBytes) ⌝ }
     ensures { λ r. ⌜ now (list .exit) ≡ withField (now (list .entry)) i line place start end ⌝ }
 {
-    list[FIELD_SIZE * i] = place;
-    list[FIELD_SIZE * i + LINE_AT] = line;
-    list[FIELD_SIZE * i + START_AT] = start;
-    list[FIELD_SIZE * i + END_AT] = end;
+    list[FIELD_SIZE * i] = place as u32;
+    list[FIELD_SIZE * i + LINE_AT] = line as u32;
+    list[FIELD_SIZE * i + START_AT] = start as u32;
+    list[FIELD_SIZE * i + END_AT] = end as u32;
 }
 
 // The fields of the page, or the first line with 4, 9 or 5.
-fn list_page(t: &[u8], list: &mut [usize]) -> Found
+fn list_page(t: &[u8], list: &mut [u32]) -> Found
     requires { ⌜ length (now t) ≤ textBytes ⌝ }
     requires { ⌜ fieldSize * mostFields ≤ length (now list) ⌝ }
     ensures { λ r. ⌜ (foundIn (now (t .entry)) (now (list .exit)) r ≡ pageOf (now (t .entry))) × Holds (now (t .entry)) (now (list .exit)) r ⌝ }
@@ -114,7 +116,7 @@ fn list_page(t: &[u8], list: &mut [usize]) -> Found
 }
 
 // The fields of a text, or its refusal: 2, then 3, then 4, 9 and 5.
-pub fn list_fields(t: &[u8], list: &mut [usize]) -> Found
+pub fn list_fields(t: &[u8], list: &mut [u32]) -> Found
     requires { ⌜ fieldSize * mostFields ≤ length (now list) ⌝ }
     ensures { λ r. ⌜ (foundIn (now (t .entry)) (now (list .exit)) r ≡ textPage (now (t .entry))) × Holds (now (t .entry)) (now (list .exit)) r ⌝ }
 {
@@ -135,7 +137,7 @@ pub fn list_fields(t: &[u8], list: &mut [usize]) -> Found
 }
 
 // The number of the next field of a place from one number on; where there is none, the other number.
-pub fn next_at(list: &[usize], place: usize, from: usize, to: usize) -> usize
+pub fn next_at(list: &[u32], place: usize, from: usize, to: usize) -> usize
     requires { ⌜ fieldSize * to ≤ length (now list) ⌝ }
     ensures { λ r. ⌜ r ≡ nextAt (now (list .entry)) place from (to - from) ⌝ }
 {
@@ -150,7 +152,7 @@ pub fn next_at(list: &[usize], place: usize, from: usize, to: usize) -> usize
 }
 
 // The number behind the last field that stands in a map.
-pub fn maps_end(list: &[usize], n: usize) -> usize
+pub fn maps_end(list: &[u32], n: usize) -> usize
     requires { ⌜ fieldSize * n ≤ length (now list) ⌝ }
     ensures { λ r. ⌜ r ≡ mapsEnd (now (list .entry)) n ⌝ }
 {
@@ -164,7 +166,7 @@ pub fn maps_end(list: &[usize], n: usize) -> usize
     0
 }
 
-fn one_at(list: &[usize], place: usize, i: usize) -> usize
+fn one_at(list: &[u32], place: usize, i: usize) -> usize
     requires { ⌜ fieldSize * (i + 1) ≤ length (now list) ⌝ }
     ensures { λ r. ⌜ r ≡ oneIn (now (list .entry)) place i ⌝ }
 {
@@ -175,7 +177,7 @@ fn one_at(list: &[usize], place: usize, i: usize) -> usize
 }
 
 // How many fields from one number up to another stand at a place.
-pub fn count_at(list: &[usize], place: usize, from: usize, to: usize) -> usize
+pub fn count_at(list: &[u32], place: usize, from: usize, to: usize) -> usize
     requires { ⌜ fieldSize * to ≤ length (now list) ⌝ }
     ensures { λ r. ⌜ r ≡ countAt (now (list .entry)) place from (to - from) ⌝ }
 {
@@ -191,7 +193,7 @@ pub fn count_at(list: &[usize], place: usize, from: usize, to: usize) -> usize
 // The value at a place, or what an omitted field or a bare one means.
 pub fn value_at<'a>(
     t: &'a [u8],
-    list: &[usize],
+    list: &[u32],
     place: usize,
     from: usize,
     to: usize,
@@ -237,7 +239,7 @@ pub fn is_call_context(place: usize) -> bool
 }
 
 // How many access descriptors `can_read` or `can_write` of an entry is.
-pub fn descriptors_of(t: &[u8], list: &[usize], access: usize, from: usize, to: usize) -> usize
+pub fn descriptors_of(t: &[u8], list: &[u32], access: usize, from: usize, to: usize) -> usize
     requires { ⌜ fieldSize * to ≤ length (now list) ⌝ }
     requires { ⌜ IsAccess access ⌝ }
     ensures { λ r. ⌜ r ≡ descriptorsOf access (between (now (t .entry)) (now (list .entry)) from to) ⌝ }

@@ -21,7 +21,7 @@ ghost use Rattle.file_names.specs.Naming.{Sound};
 ghost use Rattle.file_read.specs.Readable.{Readable};
 
 // The filled text of fields that keep the rules, if it may be so long and there is room for it.
-fn write_fitting(t: &[u8], list: &[usize], n: usize, out: &mut [u8]) -> Filling
+fn write_fitting(t: &[u8], list: &[u32], n: usize, out: &mut [u8]) -> Filling
     requires { ⌜ (fieldSize * n ≤ length (now list)) × (length (now t) ≤ textBytes) × (n ≤ mostFields) ⌝ }
     ensures { λ r. ⌜ r ≡ writtenIn (length (now (out .entry))) (length (filledText (between (now (t .entry)) (now (list .entry)) 0 n))) ⌝ }
     ensures { λ r. ⌜ now (out .exit) ≡ outputLeft (filledText (between (now (t .entry)) (now (list .entry)) 0 n)) (now (out .entry)) r ⌝ }
@@ -44,7 +44,7 @@ fn write_fitting(t: &[u8], list: &[usize], n: usize, out: &mut [u8]) -> Filling
 }
 
 // The rules, as the reader has them: it is lent a table that nobody looks at.
-fn fill_fields(t: &[u8], list: &[usize], n: usize, out: &mut [u8]) -> Filling
+fn fill_fields(t: &[u8], list: &[u32], n: usize, out: &mut [u8]) -> Filling
     requires { ⌜ Sound (now t) (now list) n ⌝ }
     requires { ⌜ n ≤ mostFields ⌝ }
     requires { ⌜ Readable (between (now t) (now list) 0 n) ⌝ }
@@ -63,7 +63,7 @@ pub fn fill(text: &[u8], out: &mut [u8]) -> Filling
     ensures { λ r. ⌜ r ≡ fillAnswer (now (text .entry)) (now (out .entry)) ⌝ }
     ensures { λ r. ⌜ now (out .exit) ≡ fillLeaves (now (text .entry)) (now (out .entry)) ⌝ }
 {
-    let mut list = [0usize; file_fields::LIST_SIZE];
+    let mut list = [0u32; file_fields::LIST_SIZE];
     match list_fields(text, &mut list) {
         Found::Refused { number, line } => Filling::Unfilled {
             number,

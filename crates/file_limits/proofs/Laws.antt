@@ -120,7 +120,7 @@ module _ (t list : List ℕ) (n whole : ℕ) where
     no-entries h = rw (entries-none t list from n h) at inv
 
 pub descriptors-fit : (list : List ℕ) (from n to sum w : ℕ) → from < n → to ≡ nextAt list principal (from + 1) (n - (from + 1))
-    → sum ≤ 256 → w ≤ 2 * (1 + to) → fieldSize * n ≤ length list → length list * 8 < 2 ^ 63 → Fits w64 (sum + w)
+    → sum ≤ 256 → w ≤ 2 * (1 + to) → fieldSize * n ≤ length list → length list * 4 < 2 ^ 63 → Fits w64 (sum + w)
 descriptors-fit list from n to sum w h q a b d l = omega (arith, entry-room list from n to h q d)
 
 -- ---- all of them

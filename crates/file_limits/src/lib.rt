@@ -26,7 +26,7 @@ pub enum Count {
     Members,
 }
 
-fn weight(t: &[u8], list: &[usize], i: usize, count: Count, place: usize) -> usize
+fn weight(t: &[u8], list: &[u32], i: usize, count: Count, place: usize) -> usize
     requires { ⌜ fieldSize * (i + 1) ≤ length (now list) ⌝ }
     ensures { λ r. ⌜ (r ≡ weighed count place (fieldAt (now (t .entry)) (now (list .entry)) i)) × (r ≤ length (now (t .entry)) + 1) ⌝ }
 {
@@ -40,14 +40,7 @@ fn weight(t: &[u8], list: &[usize], i: usize, count: Count, place: usize) -> usi
 }
 
 // The line of the field with which the count passes the limit.
-fn passing_line(
-    t: &[u8],
-    list: &[usize],
-    n: usize,
-    count: Count,
-    place: usize,
-    most: usize,
-) -> usize
+fn passing_line(t: &[u8], list: &[u32], n: usize, count: Count, place: usize, most: usize) -> usize
     requires { ⌜ fieldSize * n ≤ length (now list) ⌝ }
     requires { ⌜ most ≤ mostMembers ⌝ }
     ensures { λ r. ⌜ r ≡ passing (λ f. f .line) (weighed count place) most 0 (between (now (t .entry)) (now (list .entry)) 0 n) ⌝ }
@@ -64,7 +57,7 @@ fn passing_line(
     NO_LINE
 }
 
-fn is_long(t: &[u8], list: &[usize], i: usize) -> bool
+fn is_long(t: &[u8], list: &[u32], i: usize) -> bool
     requires { ⌜ fieldSize * (i + 1) ≤ length (now list) ⌝ }
     ensures { λ r. ⌜ r ≡ longPattern (fieldAt (now (t .entry)) (now (list .entry)) i) ⌝ }
 {
@@ -75,7 +68,7 @@ fn is_long(t: &[u8], list: &[usize], i: usize) -> bool
 }
 
 // The line of the first pattern that is too long.
-fn long_line(t: &[u8], list: &[usize], n: usize) -> usize
+fn long_line(t: &[u8], list: &[u32], n: usize) -> usize
     requires { ⌜ fieldSize * n ≤ length (now list) ⌝ }
     ensures { λ r. ⌜ r ≡ firstWith longPattern (between (now (t .entry)) (now (list .entry)) 0 n) ⌝ }
 {
@@ -90,7 +83,7 @@ fn long_line(t: &[u8], list: &[usize], n: usize) -> usize
 }
 
 // How many access descriptors an entry has.
-fn descriptors_in(t: &[u8], list: &[usize], from: usize, to: usize) -> usize
+fn descriptors_in(t: &[u8], list: &[u32], from: usize, to: usize) -> usize
     requires { ⌜ fieldSize * to ≤ length (now list) ⌝ }
     ensures { λ r. ⌜ (r ≡ descriptorsIn (between (now (t .entry)) (now (list .entry)) from to)) × (r ≤ 2 * (1 + to)) ⌝ }
 {
@@ -99,7 +92,7 @@ fn descriptors_in(t: &[u8], list: &[usize], from: usize, to: usize) -> usize
 }
 
 // The line of the entry with which the access descriptors pass their limit.
-fn descriptors_line(t: &[u8], list: &[usize], n: usize) -> usize
+fn descriptors_line(t: &[u8], list: &[u32], n: usize) -> usize
     requires { ⌜ fieldSize * n ≤ length (now list) ⌝ }
     ensures { λ r. ⌜ r ≡ passing lineOfEntry descriptorsIn mostDescriptors 0 (entriesOf (between (now (t .entry)) (now (list .entry)) 0 n)) ⌝ }
 {
@@ -117,7 +110,7 @@ fn descriptors_line(t: &[u8], list: &[usize], n: usize) -> usize
 }
 
 // The domains and members of both maps: fields behind them are not asked.
-fn map_line(t: &[u8], list: &[usize], n: usize, after: usize) -> usize
+fn map_line(t: &[u8], list: &[u32], n: usize, after: usize) -> usize
     requires { ⌜ fieldSize * n ≤ length (now list) ⌝ }
     ensures { λ r. ⌜ r ≡ mapLine (between (now (t .entry)) (now (list .entry)) 0 n) after ⌝ }
 {
@@ -164,7 +157,7 @@ fn map_line(t: &[u8], list: &[usize], n: usize, after: usize) -> usize
 }
 
 // 6 over the whole file.
-pub fn over_limit(t: &[u8], list: &[usize], n: usize) -> usize
+pub fn over_limit(t: &[u8], list: &[u32], n: usize) -> usize
     requires { ⌜ fieldSize * n ≤ length (now list) ⌝ }
     ensures { λ r. ⌜ r ≡ overLimit (between (now (t .entry)) (now (list .entry)) 0 n) ⌝ }
 {

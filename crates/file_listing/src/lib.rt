@@ -27,7 +27,7 @@ pub enum Listing {
 }
 
 // The whole list, one field at a time.
-fn put_things(t: &[u8], list: &[usize], n: usize, out: &mut [u32]) -> usize
+fn put_things(t: &[u8], list: &[u32], n: usize, out: &mut [u32]) -> usize
     requires { ⌜ Sound (now t) (now list) n ⌝ }
     requires { ⌜ Writable (thingsOf (between (now t) (now list) 0 n)) (now out) ⌝ }
     ensures { λ r. ⌜ Wrote (thingsOf (between (now (t .entry)) (now (list .entry)) 0 n)) (now (out .entry)) (now (out .exit)) r ⌝ }
@@ -42,7 +42,7 @@ fn put_things(t: &[u8], list: &[usize], n: usize, out: &mut [u32]) -> usize
 }
 
 // The list of fields that keep the rules, if there is room for it.
-fn list_fitting(t: &[u8], list: &[usize], n: usize, out: &mut [u32]) -> Listing
+fn list_fitting(t: &[u8], list: &[u32], n: usize, out: &mut [u32]) -> Listing
     requires { ⌜ Sound (now t) (now list) n ⌝ }
     requires { ⌜ n ≤ mostFields ⌝ }
     requires { ⌜ AllSmall (thingsOf (between (now t) (now list) 0 n)) ⌝ }
@@ -62,7 +62,7 @@ fn list_fitting(t: &[u8], list: &[usize], n: usize, out: &mut [u32]) -> Listing
 }
 
 // The rules, as the reader has them: it is lent a table that nobody looks at.
-fn list_ruled(t: &[u8], list: &[usize], n: usize, out: &mut [u32]) -> Listing
+fn list_ruled(t: &[u8], list: &[u32], n: usize, out: &mut [u32]) -> Listing
     requires { ⌜ Sound (now t) (now list) n ⌝ }
     requires { ⌜ n ≤ mostFields ⌝ }
     requires { ⌜ Readable (between (now t) (now list) 0 n) ⌝ }
@@ -82,7 +82,7 @@ pub fn list(text: &[u8], out: &mut [u32]) -> Listing
     ensures { λ r. ⌜ r ≡ listAnswer (now (text .entry)) ⌝ }
     ensures { λ r. ⌜ now (out .exit) ≡ listLeaves (now (text .entry)) (now (out .entry)) ⌝ }
 {
-    let mut fields = [0usize; file_fields::LIST_SIZE];
+    let mut fields = [0u32; file_fields::LIST_SIZE];
     match list_fields(text, &mut fields) {
         Found::Refused { number, line } => Listing::Unlisted {
             number,

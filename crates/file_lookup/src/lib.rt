@@ -40,7 +40,7 @@ fn names_of(map: Map) -> usize
 }
 
 // Where the value of field i stands.
-fn value_place(t: &[u8], list: &[usize], i: usize) -> Place
+fn value_place(t: &[u8], list: &[u32], i: usize) -> Place
     requires { ⌜ fieldSize * (i + 1) ≤ length (now list) ⌝ }
     ensures { λ r. ⌜ stretchIn (now (t .entry)) r ≡ stretchOf (fieldAt (now (t .entry)) (now (list .entry)) i) ⌝ }
     ensures { λ r. ⌜ EndsWithBytes (now (t .entry)) r ⌝ }
@@ -54,7 +54,7 @@ fn value_place(t: &[u8], list: &[usize], i: usize) -> Place
 }
 
 // Number d of the fields that stand at a place of the listing.
-fn name_among(t: &[u8], list: &[usize], n: usize, place: usize, d: usize) -> Place
+fn name_among(t: &[u8], list: &[u32], n: usize, place: usize, d: usize) -> Place
     requires { ⌜ fieldSize * n ≤ length (now list) ⌝ }
     ensures { λ r. ⌜ stretchIn (now (t .entry)) r ≡ nameAmong (fieldsAt place (between (now (t .entry)) (now (list .entry)) 0 n)) d ⌝ }
     ensures { λ r. ⌜ EndsWithBytes (now (t .entry)) r ⌝ }
@@ -76,7 +76,7 @@ fn name_among(t: &[u8], list: &[usize], n: usize, place: usize, d: usize) -> Pla
 }
 
 // The rules, as the reader has them: it is lent a table that nobody looks at.
-fn name_in_fields(t: &[u8], list: &[usize], n: usize, map: Map, domain: usize) -> Place
+fn name_in_fields(t: &[u8], list: &[u32], n: usize, map: Map, domain: usize) -> Place
     requires { ⌜ Sound (now t) (now list) n ⌝ }
     requires { ⌜ n ≤ mostFields ⌝ }
     requires { ⌜ Readable (between (now t) (now list) 0 n) ⌝ }
@@ -95,7 +95,7 @@ pub fn name_place(text: &[u8], map: Map, domain: usize) -> Place
     ensures { λ r. ⌜ stretchIn (now (text .entry)) r ≡ lookupAnswer (now (text .entry)) map domain ⌝ }
     ensures { λ r. ⌜ InText (now (text .entry)) r ⌝ }
 {
-    let mut list = [0usize; file_fields::LIST_SIZE];
+    let mut list = [0u32; file_fields::LIST_SIZE];
     match list_fields(text, &mut list) {
         Found::Refused { number: _, line: _ } => Place { start: 0, end: 0 },
         Found::Listed(n) => name_in_fields(text, &list, n, map, domain),

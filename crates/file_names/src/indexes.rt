@@ -58,7 +58,7 @@ fn enter(t: &[u8], ix: &mut [usize], n: usize, start: usize, end: usize) -> bool
 // Puts the domain that field i names in.
 fn enter_domain(
     t: &[u8],
-    list: &[usize],
+    list: &[u32],
     i: usize,
     one: usize,
     other: usize,
@@ -86,7 +86,7 @@ fn enter_domain(
 // Puts the members that field i names in.
 fn enter_members(
     t: &[u8],
-    list: &[usize],
+    list: &[u32],
     i: usize,
     place: usize,
     ix: &mut [usize],
@@ -124,7 +124,7 @@ fn enter_members(
 // Puts what field i names in.
 fn enter_field(
     t: &[u8],
-    list: &[usize],
+    list: &[u32],
     i: usize,
     naming: Naming,
     ix: &mut [usize],
@@ -146,7 +146,7 @@ fn enter_field(
 // What the fields name put into an index: none is asked from `end` on, where they name nothing.
 fn index_all(
     t: &[u8],
-    list: &[usize],
+    list: &[u32],
     n: usize,
     end: usize,
     naming: Naming,
@@ -184,7 +184,7 @@ fn index_all(
 // The domains named at two places, or at one that is given twice.
 pub fn index_domains(
     t: &[u8],
-    list: &[usize],
+    list: &[u32],
     n: usize,
     end: usize,
     one: usize,
@@ -204,7 +204,7 @@ pub fn index_domains(
 // The members of a map, by the place of its lists.
 pub fn index_members(
     t: &[u8],
-    list: &[usize],
+    list: &[u32],
     n: usize,
     end: usize,
     place: usize,

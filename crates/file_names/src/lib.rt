@@ -42,7 +42,7 @@ pub struct Names {
 }
 
 // The line of the first domain name that stands twice, over both maps.
-fn domains_line(t: &[u8], list: &[usize], n: usize, end: usize) -> usize
+fn domains_line(t: &[u8], list: &[u32], n: usize, end: usize) -> usize
     requires { ⌜ Sound (now t) (now list) n ⌝ }
     requires { ⌜ overLimit (between (now t) (now list) 0 n) ≡ noLine ⌝ }
     requires { ⌜ end ≡ mapsEnd (now list) n ⌝ }
@@ -63,7 +63,7 @@ fn domains_line(t: &[u8], list: &[usize], n: usize, end: usize) -> usize
 }
 
 // The line of the first object that stands twice.
-fn objects_line(t: &[u8], list: &[usize], n: usize, end: usize) -> usize
+fn objects_line(t: &[u8], list: &[u32], n: usize, end: usize) -> usize
     requires { ⌜ Sound (now t) (now list) n ⌝ }
     requires { ⌜ overLimit (between (now t) (now list) 0 n) ≡ noLine ⌝ }
     requires { ⌜ end ≡ mapsEnd (now list) n ⌝ }
@@ -78,7 +78,7 @@ fn objects_line(t: &[u8], list: &[usize], n: usize, end: usize) -> usize
 // The indexes of the maps, and the line of the first function that stands twice. They are whole where no domain stands twice either.
 fn index_maps(
     t: &[u8],
-    list: &[usize],
+    list: &[u32],
     n: usize,
     end: usize,
     objects_ix: &mut [usize],
@@ -126,7 +126,7 @@ fn index_maps(
 // The words of the names that entries have, and the line of the first list that has one twice.
 fn word_lists(
     t: &[u8],
-    list: &[usize],
+    list: &[u32],
     n: usize,
     objects_ix: &[usize],
     subjects_ix: &[usize],
@@ -163,7 +163,7 @@ fn word_lists(
 // 7 over the whole file, and the indexes of its maps; where nothing stands twice, the words of its names too.
 pub fn index_names(
     t: &[u8],
-    list: &[usize],
+    list: &[u32],
     n: usize,
     objects_ix: &mut [usize],
     subjects_ix: &mut [usize],

@@ -43,7 +43,7 @@ fn distinct(words: &[u16]) -> bool
 }
 
 // The same of the words of field i, where it is a list of domains.
-fn list_distinct(list: &[usize], words: &[u16], starts: &[usize], i: usize) -> bool
+fn list_distinct(list: &[u32], words: &[u16], starts: &[usize], i: usize) -> bool
     requires { ⌜ fieldSize * (i + 1) ≤ length (now list) ⌝ }
     requires { ⌜ i + 1 < length (now starts) ⌝ }
     ensures { λ r. ⌜ r ≡ listSeparate (now (list .entry)) (now (words .entry)) (now (starts .entry)) i ⌝ }
@@ -58,7 +58,7 @@ fn list_distinct(list: &[usize], words: &[u16], starts: &[usize], i: usize) -> b
 }
 
 // The same of every field: so most files are told quickly.
-fn lists_distinct(list: &[usize], n: usize, words: &[u16], starts: &[usize]) -> bool
+fn lists_distinct(list: &[u32], n: usize, words: &[u16], starts: &[usize]) -> bool
     requires { ⌜ (fieldSize * n ≤ length (now list)) × (n < length (now starts)) ⌝ }
     ensures { λ r. ⌜ r ≡ listsSeparate (now (list .entry)) (now (words .entry)) (now (starts .entry)) 0 n ⌝ }
 {
@@ -73,7 +73,7 @@ fn lists_distinct(list: &[usize], n: usize, words: &[u16], starts: &[usize]) -> 
 }
 
 // A name stands in the list of field i twice. Where two words are the same, or one is no domain's, the names themselves tell.
-fn has_twice(t: &[u8], list: &[usize], n: usize, words: &[u16], starts: &[usize], i: usize) -> bool
+fn has_twice(t: &[u8], list: &[u32], n: usize, words: &[u16], starts: &[usize], i: usize) -> bool
     requires { ⌜ (fieldSize * n ≤ length (now list)) × (i < n) ⌝ }
     requires { ⌜ length (now t) ≤ textBytes ⌝ }
     requires { ⌜ wellSpaced (fieldAt (now t) (now list) i) ≡ true ⌝ }
@@ -87,7 +87,7 @@ fn has_twice(t: &[u8], list: &[usize], n: usize, words: &[u16], starts: &[usize]
 }
 
 // The line of the first list that has a name twice.
-pub fn lists_line(t: &[u8], list: &[usize], n: usize, words: &[u16], starts: &[usize]) -> usize
+pub fn lists_line(t: &[u8], list: &[u32], n: usize, words: &[u16], starts: &[usize]) -> usize
     requires { ⌜ Sound (now t) (now list) n ⌝ }
     requires { ⌜ WordedSomehow (now t) (now list) n (now words) (now starts) ⌝ }
     ensures { λ r. ⌜ r ≡ firstWith repeatsInList (between (now (t .entry)) (now (list .entry)) 0 n) ⌝ }

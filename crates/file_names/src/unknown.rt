@@ -36,7 +36,7 @@ fn all_below(words: &[u16], limit: usize) -> bool
 // Field i names what its map lacks: the number of such a name is not below the map's count. An element that no map has is numbered as a domain.
 fn is_unknown(
     t: &[u8],
-    list: &[usize],
+    list: &[u32],
     n: usize,
     objects: usize,
     subjects_ix: &[usize],
@@ -67,7 +67,7 @@ fn is_unknown(
 // 8 over the whole file.
 pub fn unknown_line(
     t: &[u8],
-    list: &[usize],
+    list: &[u32],
     n: usize,
     objects: usize,
     subjects_ix: &[usize],

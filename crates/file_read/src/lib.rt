@@ -49,7 +49,7 @@ fn refused(number: u16, line: usize) -> Reading
 // 10 and 11, and then the table, of a file that names nothing unknown.
 fn read_known(
     t: &[u8],
-    list: &[usize],
+    list: &[u32],
     n: usize,
     subjects_ix: &[usize],
     names: Names,
@@ -89,7 +89,7 @@ fn read_known(
 // 8, and then the rules that are left and the table, of a file whose names are numbered.
 fn read_named(
     t: &[u8],
-    list: &[usize],
+    list: &[u32],
     n: usize,
     subjects_ix: &[usize],
     names: Names,
@@ -120,7 +120,7 @@ fn read_named(
 }
 
 // The rules over the whole file, and then the table.
-pub fn read_fields(t: &[u8], list: &[usize], n: usize, table: &mut [u16]) -> Reading
+pub fn read_fields(t: &[u8], list: &[u32], n: usize, table: &mut [u16]) -> Reading
     requires { ⌜ Sound (now t) (now list) n ⌝ }
     requires { ⌜ n ≤ mostFields ⌝ }
     requires { ⌜ Readable (between (now t) (now list) 0 n) ⌝ }
@@ -165,7 +165,7 @@ fn read_text(t: &[u8], table: &mut [u16]) -> Reading
     ensures { λ r. ⌜ r ≡ readingOf (fileOf (now (t .entry))) ⌝ }
     ensures { λ r. ⌜ now (table .exit) ≡ wordsRead (fileOf (now (t .entry))) ++ drop tableWords (now (table .entry)) ⌝ }
 {
-    let mut list = [0usize; file_fields::LIST_SIZE];
+    let mut list = [0u32; file_fields::LIST_SIZE];
     match list_fields(t, &mut list) {
         Found::Refused { number, line } => Reading::Unread {
             number,

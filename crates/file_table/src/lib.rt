@@ -43,7 +43,7 @@ pub fn set_words(out: &mut [u16], d: u16)
 }
 
 // The domain of each member of a map, by the place of its lists: how many members there are.
-fn write_members(t: &[u8], list: &[usize], n: usize, place: usize, out: &mut [u16]) -> usize
+fn write_members(t: &[u8], list: &[u32], n: usize, place: usize, out: &mut [u16]) -> usize
     requires { ⌜ (fieldSize * n ≤ length (now list)) × (n ≤ mostFields) ⌝ }
     requires { ⌜ length (memberDomains 0 (fieldsAt place (between (now t) (now list) 0 n))) ≤ mostMembers ⌝ }
     requires { ⌜ now out ≡ replicate mostMembers 0 ⌝ }
@@ -64,7 +64,7 @@ fn write_members(t: &[u8], list: &[usize], n: usize, place: usize, out: &mut [u1
 }
 
 // The domain of each object, then of each function: how many objects there are.
-fn write_maps(t: &[u8], list: &[usize], n: usize, out: &mut [u16]) -> usize
+fn write_maps(t: &[u8], list: &[u32], n: usize, out: &mut [u16]) -> usize
     requires { ⌜ (fieldSize * n ≤ length (now list)) × (n ≤ mostFields) ⌝ }
     requires { ⌜ length (memberDomains 0 (fieldsAt objectMembers (between (now t) (now list) 0 n))) ≤ mostMembers ⌝ }
     requires { ⌜ length (memberDomains 0 (fieldsAt subjectMembers (between (now t) (now list) 0 n))) ≤ mostMembers ⌝ }
@@ -115,7 +115,7 @@ fn write_head(
 // The words of each entry: how many entries there are.
 fn write_entries(
     t: &[u8],
-    list: &[usize],
+    list: &[u32],
     n: usize,
     words: &[u16],
     starts: &[usize],
@@ -157,7 +157,7 @@ fn write_entries(
 // The descriptors of an entry's items, one behind the other: how many there are.
 fn write_items(
     t: &[u8],
-    list: &[usize],
+    list: &[u32],
     n: usize,
     words: &[u16],
     starts: &[usize],
@@ -203,7 +203,7 @@ fn write_items(
 // The descriptors of `can_read` or `can_write`: `all` is one with nothing written in it.
 fn write_access(
     t: &[u8],
-    list: &[usize],
+    list: &[u32],
     n: usize,
     words: &[u16],
     starts: &[usize],
@@ -244,7 +244,7 @@ fn write_access(
 // The descriptors of an entry, its reads first: how many there are.
 fn write_accesses(
     t: &[u8],
-    list: &[usize],
+    list: &[u32],
     n: usize,
     words: &[u16],
     starts: &[usize],
@@ -292,7 +292,7 @@ fn write_accesses(
 // The words of each entry's descriptors: how many descriptors there are.
 fn write_descriptors(
     t: &[u8],
-    list: &[usize],
+    list: &[u32],
     n: usize,
     words: &[u16],
     starts: &[usize],
@@ -321,7 +321,7 @@ fn write_descriptors(
 // The entries, then their descriptors: how many entries there are.
 fn write_privileges(
     t: &[u8],
-    list: &[usize],
+    list: &[u32],
     n: usize,
     words: &[u16],
     starts: &[usize],
@@ -363,7 +363,7 @@ fn write_privileges(
 // The words of the file's policy, over zeros.
 pub fn write_table(
     t: &[u8],
-    list: &[usize],
+    list: &[u32],
     n: usize,
     words: &[u16],
     starts: &[usize],

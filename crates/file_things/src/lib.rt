@@ -59,7 +59,7 @@ fn naming_at(place: usize) -> Naming
 }
 
 // How many words the things of field i take.
-fn field_words(t: &[u8], list: &[usize], i: usize) -> usize
+fn field_words(t: &[u8], list: &[u32], i: usize) -> usize
     requires { ⌜ (fieldSize * (i + 1) ≤ length (now list)) × (length (now t) ≤ textBytes) ⌝ }
     ensures { λ r. ⌜ (r ≡ thingSize * thingCount (fieldAt (now (t .entry)) (now (list .entry)) i)) × (r ≤ mostWords) ⌝ }
 {
@@ -72,7 +72,7 @@ fn field_words(t: &[u8], list: &[usize], i: usize) -> usize
 }
 
 // How many words the whole list takes.
-pub fn list_words(t: &[u8], list: &[usize], n: usize) -> usize
+pub fn list_words(t: &[u8], list: &[u32], n: usize) -> usize
     requires { ⌜ (fieldSize * n ≤ length (now list)) × (length (now t) ≤ textBytes) × (n ≤ mostFields) ⌝ }
     ensures { λ r. ⌜ (r ≡ length (thingsOf (between (now (t .entry)) (now (list .entry)) 0 n))) × (r ≤ mostWords * n) ⌝ }
 {
@@ -97,7 +97,7 @@ fn put_thing(kind: u32, line: usize, start: usize, size: usize, out: &mut [u32])
 }
 
 // A thing on the line of field i whose name is the value of field j.
-fn put_name(t: &[u8], list: &[usize], kind: u32, i: usize, j: usize, out: &mut [u32]) -> usize
+fn put_name(t: &[u8], list: &[u32], kind: u32, i: usize, j: usize, out: &mut [u32]) -> usize
     requires { ⌜ (fieldSize * (i + 1) ≤ length (now list)) × (fieldSize * (j + 1) ≤ length (now list)) ⌝ }
     requires { ⌜ Writable (nameThing kind (fieldAt (now t) (now list) i) (fieldAt (now t) (now list) j)) (now out) ⌝ }
     ensures { λ r. ⌜ Wrote (nameThing kind (fieldAt (now (t .entry)) (now (list .entry)) i) (fieldAt (now (t .entry)) (now (list .entry)) j))
@@ -110,7 +110,7 @@ fn put_name(t: &[u8], list: &[usize], kind: u32, i: usize, j: usize, out: &mut [
 }
 
 // The elements of the list of field i, one behind the other.
-fn put_each(t: &[u8], list: &[usize], kind: u32, i: usize, out: &mut [u32]) -> usize
+fn put_each(t: &[u8], list: &[u32], kind: u32, i: usize, out: &mut [u32]) -> usize
     requires { ⌜ fieldSize * (i + 1) ≤ length (now list) ⌝ }
     requires { ⌜ wellSpaced (fieldAt (now t) (now list) i) ≡ true ⌝ }
     requires { ⌜ Writable (eachThing kind (fieldAt (now t) (now list) i)) (now out) ⌝ }
@@ -133,7 +133,7 @@ fn put_each(t: &[u8], list: &[usize], kind: u32, i: usize, out: &mut [u32]) -> u
 }
 
 // The entry that begins with field i, of n. Where no field stands behind it, it has no name.
-fn put_entry(t: &[u8], list: &[usize], i: usize, n: usize, out: &mut [u32]) -> usize
+fn put_entry(t: &[u8], list: &[u32], i: usize, n: usize, out: &mut [u32]) -> usize
     requires { ⌜ (i < n) × (fieldSize * n ≤ length (now list)) ⌝ }
     requires { ⌜ Writable (nameThing 5 (fieldAt (now t) (now list) i) (behindIn (now t) (now list) i n)) (now out) ⌝ }
     ensures { λ r. ⌜ Wrote (nameThing 5 (fieldAt (now (t .entry)) (now (list .entry)) i) (behindIn (now (t .entry)) (now (list .entry)) i n))
@@ -146,7 +146,7 @@ fn put_entry(t: &[u8], list: &[usize], i: usize, n: usize, out: &mut [u32]) -> u
 }
 
 // The things of field i, of n.
-pub fn put_field(t: &[u8], list: &[usize], i: usize, n: usize, out: &mut [u32]) -> usize
+pub fn put_field(t: &[u8], list: &[u32], i: usize, n: usize, out: &mut [u32]) -> usize
     requires { ⌜ (i < n) × (fieldSize * n ≤ length (now list)) ⌝ }
     requires { ⌜ wellSpaced (fieldAt (now t) (now list) i) ≡ true ⌝ }
     requires { ⌜ Writable (thingsIn (fieldAt (now t) (now list) i) (behindIn (now t) (now list) i n)) (now out) ⌝ }

@@ -168,7 +168,7 @@ fn domain_words(t: &[u8], ix: &[usize], n: usize, s: &[u8], out: &mut [u16]) -> 
 // The words of field i's names: how many there are.
 fn field_words(
     t: &[u8],
-    list: &[usize],
+    list: &[u32],
     i: usize,
     objects_ix: &[usize],
     objects: usize,
@@ -212,7 +212,7 @@ fn field_words(
 // The words of all n fields, and where each field's start.
 pub fn look_up(
     t: &[u8],
-    list: &[usize],
+    list: &[u32],
     n: usize,
     objects_ix: &[usize],
     objects: usize,

@@ -19,7 +19,7 @@ ghost use Rattle.filled_parts.specs.Parts.{idsText};
 // The value at a place among the fields from one number up to another, or its default.
 pub fn value_line<'a>(
     t: &'a [u8],
-    list: &[usize],
+    list: &[u32],
     place: usize,
     from: usize,
     to: usize,
@@ -36,7 +36,7 @@ pub fn value_line<'a>(
 }
 
 // `uid`, `gid` and `namespace` of a context.
-fn ids(t: &[u8], list: &[usize], place: usize, from: usize, to: usize, out: &mut [u8]) -> usize
+fn ids(t: &[u8], list: &[u32], place: usize, from: usize, to: usize, out: &mut [u8]) -> usize
     requires { ⌜ fieldSize * to ≤ length (now list) ⌝ }
     requires { ⌜ IsContext place ⌝ }
     requires { ⌜ Fits (idsText place (between (now t) (now list) from to)) (now out) ⌝ }
@@ -52,7 +52,7 @@ fn ids(t: &[u8], list: &[usize], place: usize, from: usize, to: usize, out: &mut
 
 pub fn context(
     t: &[u8],
-    list: &[usize],
+    list: &[u32],
     place: usize,
     from: usize,
     to: usize,
@@ -69,7 +69,7 @@ pub fn context(
     b + ids(t, list, place, from, to, &mut out[b..])
 }
 
-fn item(t: &[u8], list: &[usize], access: usize, from: usize, to: usize, out: &mut [u8]) -> usize
+fn item(t: &[u8], list: &[u32], access: usize, from: usize, to: usize, out: &mut [u8]) -> usize
     requires { ⌜ fieldSize * to ≤ length (now list) ⌝ }
     requires { ⌜ IsAccess access ⌝ }
     requires { ⌜ Fits (itemText access (between (now t) (now list) from to)) (now out) ⌝ }
@@ -82,7 +82,7 @@ fn item(t: &[u8], list: &[usize], access: usize, from: usize, to: usize, out: &m
 }
 
 // All items among the fields from one number up to another.
-fn items(t: &[u8], list: &[usize], access: usize, from: usize, to: usize, out: &mut [u8]) -> usize
+fn items(t: &[u8], list: &[u32], access: usize, from: usize, to: usize, out: &mut [u8]) -> usize
     requires { ⌜ (fieldSize * to ≤ length (now list)) × (from ≤ to) ⌝ }
     requires { ⌜ IsAccess access ⌝ }
     requires { ⌜ Fits (flatMap (itemText access) (itemsOf access (between (now t) (now list) from to))) (now out) ⌝ }
@@ -100,7 +100,7 @@ fn items(t: &[u8], list: &[usize], access: usize, from: usize, to: usize, out: &
 
 pub fn access(
     t: &[u8],
-    list: &[usize],
+    list: &[u32],
     access: usize,
     from: usize,
     to: usize,

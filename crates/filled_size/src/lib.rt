@@ -35,7 +35,7 @@ fn key_line(place: usize, v: &[u8]) -> usize
 // The value at a place among the fields from one number up to another, or its default.
 fn value_line<'a>(
     t: &'a [u8],
-    list: &[usize],
+    list: &[u32],
     place: usize,
     from: usize,
     to: usize,
@@ -49,7 +49,7 @@ fn value_line<'a>(
     key_line(place, v)
 }
 
-fn context(t: &[u8], list: &[usize], place: usize, from: usize, to: usize) -> usize
+fn context(t: &[u8], list: &[u32], place: usize, from: usize, to: usize) -> usize
     requires { ⌜ (fieldSize * to ≤ length (now list)) × (length (now t) ≤ textBytes) ⌝ }
     requires { ⌜ IsContext place ⌝ }
     ensures { λ r. ⌜ (r ≡ length (contextText place (between (now (t .entry)) (now (list .entry)) from to))) × (r ≤ 5 * mostLine) ⌝ }
@@ -61,7 +61,7 @@ fn context(t: &[u8], list: &[usize], place: usize, from: usize, to: usize) -> us
     bare_line(place) + (call_context + (uid + (gid + namespace)))
 }
 
-fn item(t: &[u8], list: &[usize], access: usize, from: usize, to: usize) -> usize
+fn item(t: &[u8], list: &[u32], access: usize, from: usize, to: usize) -> usize
     requires { ⌜ (fieldSize * to ≤ length (now list)) × (length (now t) ≤ textBytes) ⌝ }
     requires { ⌜ IsAccess access ⌝ }
     ensures { λ r. ⌜ (r ≡ length (itemText access (between (now (t .entry)) (now (list .entry)) from to))) × (r ≤ mostItem) ⌝ }
@@ -71,7 +71,7 @@ fn item(t: &[u8], list: &[usize], access: usize, from: usize, to: usize) -> usiz
 }
 
 // All items among the fields from one number up to another.
-fn items(t: &[u8], list: &[usize], access: usize, from: usize, to: usize) -> usize
+fn items(t: &[u8], list: &[u32], access: usize, from: usize, to: usize) -> usize
     requires { ⌜ (fieldSize * to ≤ length (now list)) × (length (now t) ≤ textBytes) ⌝ }
     requires { ⌜ (from ≤ to) × (to ≤ mostFields) ⌝ }
     requires { ⌜ IsAccess access ⌝ }
@@ -87,7 +87,7 @@ fn items(t: &[u8], list: &[usize], access: usize, from: usize, to: usize) -> usi
     size
 }
 
-fn access(t: &[u8], list: &[usize], access: usize, from: usize, to: usize) -> usize
+fn access(t: &[u8], list: &[u32], access: usize, from: usize, to: usize) -> usize
     requires { ⌜ (fieldSize * to ≤ length (now list)) × (length (now t) ≤ textBytes) ⌝ }
     requires { ⌜ (from ≤ to) × (to ≤ mostFields) ⌝ }
     requires { ⌜ IsAccess access ⌝ }
@@ -100,7 +100,7 @@ fn access(t: &[u8], list: &[usize], access: usize, from: usize, to: usize) -> us
 }
 
 // An entry: its fields are those from one number up to another.
-fn entry(t: &[u8], list: &[usize], from: usize, to: usize) -> usize
+fn entry(t: &[u8], list: &[u32], from: usize, to: usize) -> usize
     requires { ⌜ (fieldSize * to ≤ length (now list)) × (length (now t) ≤ textBytes) ⌝ }
     requires { ⌜ (from ≤ to) × (to ≤ mostFields) ⌝ }
     ensures { λ r. ⌜ (r ≡ length (entryText (between (now (t .entry)) (now (list .entry)) from to))) × (r ≤ mostEntry (to - from)) ⌝ }
@@ -115,7 +115,7 @@ fn entry(t: &[u8], list: &[usize], from: usize, to: usize) -> usize
 }
 
 // All entries.
-fn entries(t: &[u8], list: &[usize], n: usize) -> usize
+fn entries(t: &[u8], list: &[u32], n: usize) -> usize
     requires { ⌜ (fieldSize * n ≤ length (now list)) × (length (now t) ≤ textBytes) × (n ≤ mostFields) ⌝ }
     ensures { λ r. ⌜ (r ≡ length (flatMap entryText (entriesOf (between (now (t .entry)) (now (list .entry)) 0 n)))) × (r ≤ mostEntry 1 * n) ⌝ }
 {
@@ -130,7 +130,7 @@ fn entries(t: &[u8], list: &[usize], n: usize) -> usize
 }
 
 // The line of field i as it was written.
-fn written_line(t: &[u8], list: &[usize], i: usize) -> usize
+fn written_line(t: &[u8], list: &[u32], i: usize) -> usize
     requires { ⌜ (fieldSize * (i + 1) ≤ length (now list)) × (length (now t) ≤ textBytes) ⌝ }
     ensures { λ r. ⌜ (r ≡ length (writtenLine (fieldAt (now (t .entry)) (now (list .entry)) i))) × (r ≤ mostLine) ⌝ }
 {
@@ -142,7 +142,7 @@ fn written_line(t: &[u8], list: &[usize], i: usize) -> usize
 }
 
 // The first n fields, each as it was written.
-fn written_lines(t: &[u8], list: &[usize], n: usize) -> usize
+fn written_lines(t: &[u8], list: &[u32], n: usize) -> usize
     requires { ⌜ (fieldSize * n ≤ length (now list)) × (length (now t) ≤ textBytes) × (n ≤ mostFields) ⌝ }
     ensures { λ r. ⌜ (r ≡ length (flatMap writtenLine (between (now (t .entry)) (now (list .entry)) 0 n))) × (r ≤ mostLine * n) ⌝ }
 {
@@ -156,7 +156,7 @@ fn written_lines(t: &[u8], list: &[usize], n: usize) -> usize
 }
 
 // The whole filled text.
-pub fn filled_size(t: &[u8], list: &[usize], n: usize) -> usize
+pub fn filled_size(t: &[u8], list: &[u32], n: usize) -> usize
     requires { ⌜ (fieldSize * n ≤ length (now list)) × (length (now t) ≤ textBytes) × (n ≤ mostFields) ⌝ }
     ensures { λ r. ⌜ r ≡ length (filledText (between (now (t .entry)) (now (list .entry)) 0 n)) ⌝ }
 {

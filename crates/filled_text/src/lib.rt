@@ -19,7 +19,7 @@ ghost use Rattle.filled_lines.specs.Wrote.{Fits, Wrote};
 ghost use Rattle.filled_text.specs.Parts.{principalText, callsText, accessesText};
 
 // An entry down to its execution context.
-fn principal(t: &[u8], list: &[usize], from: usize, to: usize, out: &mut [u8]) -> usize
+fn principal(t: &[u8], list: &[u32], from: usize, to: usize, out: &mut [u8]) -> usize
     requires { ⌜ fieldSize * to ≤ length (now list) ⌝ }
     requires { ⌜ Fits (principalText (between (now t) (now list) from to)) (now out) ⌝ }
     ensures { λ r. ⌜ Wrote (principalText (between (now (t .entry)) (now (list .entry)) from to)) (now (out .entry)) (now (out .exit)) r ⌝ }
@@ -30,7 +30,7 @@ fn principal(t: &[u8], list: &[usize], from: usize, to: usize, out: &mut [u8]) -
 }
 
 // What may be called, then what may be returned to.
-fn calls(t: &[u8], list: &[usize], from: usize, to: usize, out: &mut [u8]) -> usize
+fn calls(t: &[u8], list: &[u32], from: usize, to: usize, out: &mut [u8]) -> usize
     requires { ⌜ fieldSize * to ≤ length (now list) ⌝ }
     requires { ⌜ Fits (callsText (between (now t) (now list) from to)) (now out) ⌝ }
     ensures { λ r. ⌜ Wrote (callsText (between (now (t .entry)) (now (list .entry)) from to)) (now (out .entry)) (now (out .exit)) r ⌝ }
@@ -40,7 +40,7 @@ fn calls(t: &[u8], list: &[usize], from: usize, to: usize, out: &mut [u8]) -> us
 }
 
 // What may be read, then what may be written.
-fn accesses(t: &[u8], list: &[usize], from: usize, to: usize, out: &mut [u8]) -> usize
+fn accesses(t: &[u8], list: &[u32], from: usize, to: usize, out: &mut [u8]) -> usize
     requires { ⌜ (fieldSize * to ≤ length (now list)) × (from ≤ to) ⌝ }
     requires { ⌜ Fits (accessesText (between (now t) (now list) from to)) (now out) ⌝ }
     ensures { λ r. ⌜ Wrote (accessesText (between (now (t .entry)) (now (list .entry)) from to)) (now (out .entry)) (now (out .exit)) r ⌝ }
@@ -50,7 +50,7 @@ fn accesses(t: &[u8], list: &[usize], from: usize, to: usize, out: &mut [u8]) ->
 }
 
 // An entry: its fields are those from one number up to another.
-fn entry(t: &[u8], list: &[usize], from: usize, to: usize, out: &mut [u8]) -> usize
+fn entry(t: &[u8], list: &[u32], from: usize, to: usize, out: &mut [u8]) -> usize
     requires { ⌜ (fieldSize * to ≤ length (now list)) × (from ≤ to) ⌝ }
     requires { ⌜ Fits (entryText (between (now t) (now list) from to)) (now out) ⌝ }
     ensures { λ r. ⌜ Wrote (entryText (between (now (t .entry)) (now (list .entry)) from to)) (now (out .entry)) (now (out .exit)) r ⌝ }
@@ -61,7 +61,7 @@ fn entry(t: &[u8], list: &[usize], from: usize, to: usize, out: &mut [u8]) -> us
 }
 
 // All entries.
-fn entries(t: &[u8], list: &[usize], n: usize, out: &mut [u8]) -> usize
+fn entries(t: &[u8], list: &[u32], n: usize, out: &mut [u8]) -> usize
     requires { ⌜ fieldSize * n ≤ length (now list) ⌝ }
     requires { ⌜ Fits (flatMap entryText (entriesOf (between (now t) (now list) 0 n))) (now out) ⌝ }
     ensures { λ r. ⌜ Wrote (flatMap entryText (entriesOf (between (now (t .entry)) (now (list .entry)) 0 n))) (now (out .entry)) (now (out .exit)) r ⌝ }
@@ -77,7 +77,7 @@ fn entries(t: &[u8], list: &[usize], n: usize, out: &mut [u8]) -> usize
 }
 
 // The line of field i as it was written.
-fn written_line(t: &[u8], list: &[usize], i: usize, out: &mut [u8]) -> usize
+fn written_line(t: &[u8], list: &[u32], i: usize, out: &mut [u8]) -> usize
     requires { ⌜ fieldSize * (i + 1) ≤ length (now list) ⌝ }
     requires { ⌜ Fits (writtenLine (fieldAt (now t) (now list) i)) (now out) ⌝ }
     ensures { λ r. ⌜ Wrote (writtenLine (fieldAt (now (t .entry)) (now (list .entry)) i)) (now (out .entry)) (now (out .exit)) r ⌝ }
@@ -90,7 +90,7 @@ fn written_line(t: &[u8], list: &[usize], i: usize, out: &mut [u8]) -> usize
 }
 
 // The first n fields, each as it was written.
-fn written_lines(t: &[u8], list: &[usize], n: usize, out: &mut [u8]) -> usize
+fn written_lines(t: &[u8], list: &[u32], n: usize, out: &mut [u8]) -> usize
     requires { ⌜ fieldSize * n ≤ length (now list) ⌝ }
     requires { ⌜ Fits (flatMap writtenLine (between (now t) (now list) 0 n)) (now out) ⌝ }
     ensures { λ r. ⌜ Wrote (flatMap writtenLine (between (now (t .entry)) (now (list .entry)) 0 n)) (now (out .entry)) (now (out .exit)) r ⌝ }
@@ -105,7 +105,7 @@ fn written_lines(t: &[u8], list: &[usize], n: usize, out: &mut [u8]) -> usize
 }
 
 // The whole filled text.
-pub fn write_filled(t: &[u8], list: &[usize], n: usize, out: &mut [u8]) -> usize
+pub fn write_filled(t: &[u8], list: &[u32], n: usize, out: &mut [u8]) -> usize
     requires { ⌜ fieldSize * n ≤ length (now list) ⌝ }
     requires { ⌜ Fits (filledText (between (now t) (now list) 0 n)) (now out) ⌝ }
     ensures { λ r. ⌜ Wrote (filledText (between (now (t .entry)) (now (list .entry)) 0 n)) (now (out .entry)) (now (out .exit)) r ⌝ }

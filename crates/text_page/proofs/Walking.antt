@@ -2,17 +2,20 @@
 use mathlib.Core.Path.{_≡_, refl, sym, ap, _∙_}
 use mathlib.Core.Bool.{Bool, true, false, cond}
 use mathlib.Core.List.{List, [], _∷_}
+use mathlib.Core.Logic.{⊎-elim}
 use Prim.Native.Nat.{ℕ, _+_, _*_, _-_, _^_, _<_, _≤_}
 use native.Mathlib.Omega.{arith}
 use mir.Syntax.{w64}
 use mir.Val.{Fits}
 use lib.Dec.{eqb}
-use lib.ListN.{length, take, drop, length-take, length-drop, drop-of-length-le}
+use lib.ListN.{length, List·getD-eq-default, take, drop, length-take, length-drop, drop-of-length-le}
 use lib.Seq.{drop-drop}
 use Rattle.paper.specs.Text.{Line, nextByte, returnBeforeFeed, endAt, linesFrom, withByte, onLine}
-use Rattle.paper.specs.Listing.{rowAt}
+use Rattle.paper.specs.Listing.{row, listing, rowAt, keyAt}
+use Rattle.paper.specs.declared.Value.the-variants.{Keys}
 use Rattle.paper.specs.Page as paper
 use Rattle.paper.specs.Page.{Outcome, fields, fault, andFields, after, isLeftEmpty, lineStep, atEnd, pageFrom}
+use Rattle.laws.proofs.Tests.{le-or-lt}
 use Rattle.laws.proofs.Places.{drop-take}
 use Rattle.laws_page.proofs.Right.{FieldOf, field-on}
 use Rattle.laws_page.proofs.Keys.{key-long}
@@ -21,7 +24,7 @@ use Rattle.text_keys.specs.declared.rows.Row.{Row}
 use Rattle.text_lines.specs.Splits.{Splits}
 use Rattle.text_lines.specs.declared.LineAt.{LineAt}
 use Rattle.text_page.specs.Steps.{stateOf, stepOf, StartsIn}
-use Rattle.text_page.specs.Walk.{startOf, nextAfter, nextIn, lastNext, pageLeft, pageNext, fieldBytes, Within}
+use Rattle.text_page.specs.Walk.{startOf, nextAfter, nextIn, lastNext, pageLeft, pageNext, fieldBytes, places, Within}
 use Rattle.text_page.proofs.Steps.{last-told}
 use Rattle.text_page.specs.declared.step.State.{State}
 use Rattle.text_page.specs.declared.step.Step as step
@@ -51,6 +54,15 @@ starts-at t at h = go (drop at t) refl
 no-fields : (p : Outcome) → andFields [] p ≡ p
 no-fields (fields fs) = refl
 no-fields (fault k m) = refl
+
+-- a key that has bytes is that of a row
+key-listed : (p : ℕ) → 0 < length (keyAt p) → p < places
+unfolding listing rowAt keyAt
+key-listed p k =
+    ⊎-elim
+    (λ (h : length listing ≤ p). absurd (let z : length (keyAt p) ≡ 0 = rw (List·getD-eq-default listing (row "" Keys [] [] false) {n = p} h) refl in omega (arith, z)))
+    (λ (h : p < length listing). h)
+    (le-or-lt (length listing) p)
 
 -- ---- one line of the walk
 
@@ -144,6 +156,10 @@ module _ (t : List ℕ) (at : ℕ) (l : LineAt) (sp : Splits t at l) where
           let long : fieldBytes ≤ a + 1 = omega (arith, key-long (stateOf st) (take (l .end - at) (drop at t)) p (d .placed), d .keyed, d .starts) in
           omega (arith, long, length-take (l .end - at) (drop at t), w, sp .after, sp .fed (d .ended))
 
+      -- its place is a row of the listing
+      pub walk-listed : (p a : ℕ) (b : Bool) → s ≡ steps.Field p b a → p < places
+      walk-listed p a b q = key-listed p (omega (arith, key-long (stateOf st) (take (l .end - at) (drop at t)) p (field-here p a b q .placed)))
+
       -- its value takes no more bytes than its line
       pub walk-value : (from p a : ℕ) (b : Bool) → s ≡ steps.Field p b a → from ≤ at → from + (l .end - (at + a)) ≤ l .next
       walk-value from p a b q k = omega (arith, sp .after, sp .fed (field-here p a b q .ended))
@@ -157,6 +173,9 @@ module _ (t : List ℕ) (at : ℕ) (l : LineAt) (sp : Splits t at l) where
 
     pub start-end : at + a ≤ l .end
     start-end = omega (arith, start-in, sp .after)
+
+pub line-within : (t : List ℕ) (at n : ℕ) → n ≤ at + 1 → at < length t → n ≤ length t
+line-within t at n h k = omega arith
 
 -- ---- the end of the text
 

@@ -1,5 +1,5 @@
 -- The walk over a text's fields: what it answers at a cursor, and what that says of what is left of the page. Every pass over a text stands on this.
-use Prim.Native.Nat.{ℕ, _+_, _-_, _≤_}
+use Prim.Native.Nat.{ℕ, _+_, _-_, _<_, _≤_}
 use mathlib.Core.List.{List, [], _∷_}
 use mathlib.Core.Bool.{false}
 use lib.ListN.{length, take, drop}
@@ -56,6 +56,10 @@ pageNext t (Fault number line) = fault number line
 abbrev pub fieldBytes : ℕ
 fieldBytes = 8
 
+-- the listing has so many rows, the one before the first line counted
+abbrev pub places : ℕ
+places = 31
+
 -- a field's value stands in the text and on its line, and the walk goes on behind that line:
 -- a text of n bytes has at most n / fieldBytes fields, and their values have together at most n bytes
 abbrev pub Within : List ℕ → ℕ → Next → Type 0
@@ -66,5 +70,7 @@ Within t at (Field line place start end after) =
     × (after .at ≤ length t)
     × (after .line ≤ after .at + 1)
     × (at + (end - start) ≤ after .at)
+    × (line ≤ length t)
+    × (place < places)
 Within t at End = Unit
 Within t at (Fault number line) = Unit

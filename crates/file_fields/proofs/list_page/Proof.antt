@@ -6,7 +6,7 @@ use Rattle.paper.specs.Page.{andFields, pageOf}
 use Rattle.text_page.specs.Walk.{pageLeft}
 use Rattle.file_fields.specs.Fields.{between, bytesTo}
 use Rattle.file_fields.proofs.Listing.{starts, starts-few, starts-bytes, starts-within, starts-line}
-use Rattle.file_fields.proofs.Listing.{less, stays, line-stays, few-stay, room-left, keeps-length, bytes-few, again, ended, refused}
+use Rattle.file_fields.proofs.Listing.{less, stays, line-stays, few-stay, room-left, line-few, place-few, start-few, end-few, keeps-length, bytes-few, again, ended, refused}
 use borrow.Author.Needs.{needs}
 use Rattle.file_fields.proofs.list_page.Statement.{statement}
 use Rattle.file_fields.proofs.list_page.Tie as tie
@@ -36,7 +36,7 @@ enum-known-line : tie.Need-enum-known-line Inv-loop μ-loop
 enum-known-line c = search needs
 
 put-field-requires : tie.Need-put-field-requires Inv-loop μ-loop
-put-field-requires c κs = search (needs, room-left)
+put-field-requires c κs = search (needs, room-left, line-few, place-few, start-few, end-few)
 
 add-n : tie.Need-add-n Inv-loop μ-loop
 add-n c = search needs

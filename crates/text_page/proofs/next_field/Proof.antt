@@ -6,7 +6,7 @@ use Rattle.paper.specs.Text.{linesFrom}
 use Rattle.paper.specs.Page.{pageFrom}
 use Rattle.text_page.specs.Steps.{stateOf}
 use Rattle.text_page.specs.Walk.{nextIn, nextLeft, pageLeft}
-use Rattle.text_page.proofs.Walking.{part-from, part-to, walk-less, walk-line, walk-on, walk-further, walk-value, walk-stays, line-fits, start-fits}
+use Rattle.text_page.proofs.Walking.{part-from, part-to, walk-less, walk-line, walk-on, walk-further, walk-value, walk-listed, walk-stays, line-within, line-fits, start-fits}
 use Rattle.text_page.proofs.Walking.{start-end, next-skip, next-stop, next-field, next-ends, page-skip, page-stop, page-field, page-ends, ends-within}
 use borrow.Author.Needs.{needs}
 use Rattle.text_page.proofs.next_field.Statement.{statement}
@@ -65,6 +65,8 @@ returns c = (
       search (needs, walk-stays),
       search (needs, walk-line),
       search (needs, walk-value),
+      search (needs, line-within),
+      search (needs, walk-listed),
     ),
   ),
 )
