@@ -1,7 +1,7 @@
 // The filler: any bytes, and any bytes lent to be written. The reader's rules come first; the size is known before the first byte is written.
 use file_fields::Found;
 use file_fields::list_fields;
-use file_read::read_fields;
+use file_read::rule_fields;
 use filled_size::filled_size;
 use filled_text::write_filled;
 use paper::Filling;
@@ -43,7 +43,7 @@ fn write_fitting(t: &[u8], list: &[u32], n: usize, out: &mut [u8]) -> Filling
     Filling::Written { size: size as u32 }
 }
 
-// The rules, as the reader has them: it is lent a table that nobody looks at.
+// The rules, as the reader has them.
 fn fill_fields(t: &[u8], list: &[u32], n: usize, out: &mut [u8]) -> Filling
     requires { ⌜ Sound (now t) (now list) n ⌝ }
     requires { ⌜ n ≤ mostFields ⌝ }
@@ -51,8 +51,7 @@ fn fill_fields(t: &[u8], list: &[u32], n: usize, out: &mut [u8]) -> Filling
     ensures { λ r. ⌜ r ≡ fillingOf (length (now (out .entry))) (ruled (between (now (t .entry)) (now (list .entry)) 0 n)) ⌝ }
     ensures { λ r. ⌜ now (out .exit) ≡ outputLeft (textFilled (ruled (between (now (t .entry)) (now (list .entry)) 0 n))) (now (out .entry)) r ⌝ }
 {
-    let mut table = [0u16; limit::TABLE_WORDS];
-    match read_fields(t, list, n, &mut table) {
+    match rule_fields(t, list, n) {
         Reading::Unread { number, line } => Filling::Unfilled { number, line },
         Reading::Accepted => write_fitting(t, list, n, out),
     }

@@ -2,11 +2,10 @@
 // list takes is known before the first of them is written; each writer gets the part of the words behind what was written before it.
 use file_fields::Found;
 use file_fields::list_fields;
-use file_read::read_fields;
+use file_read::rule_fields;
 use file_things::list_words;
 use file_things::put_field;
 use paper::Reading;
-use paper::limit;
 ghost use mathlib.Core.Path.{_≡_};
 ghost use Prim.Native.Nat.{_≤_};
 ghost use lib.ListN.{length};
@@ -61,7 +60,7 @@ fn list_fitting(t: &[u8], list: &[u32], n: usize, out: &mut [u32]) -> Listing
     }
 }
 
-// The rules, as the reader has them: it is lent a table that nobody looks at.
+// The rules, as the reader has them.
 fn list_ruled(t: &[u8], list: &[u32], n: usize, out: &mut [u32]) -> Listing
     requires { ⌜ Sound (now t) (now list) n ⌝ }
     requires { ⌜ n ≤ mostFields ⌝ }
@@ -70,8 +69,7 @@ fn list_ruled(t: &[u8], list: &[u32], n: usize, out: &mut [u32]) -> Listing
     ensures { λ r. ⌜ r ≡ listingOf (ruled (between (now (t .entry)) (now (list .entry)) 0 n)) ⌝ }
     ensures { λ r. ⌜ now (out .exit) ≡ wordsListed (ruled (between (now (t .entry)) (now (list .entry)) 0 n)) (now (out .entry)) ⌝ }
 {
-    let mut table = [0u16; limit::TABLE_WORDS];
-    match read_fields(t, list, n, &mut table) {
+    match rule_fields(t, list, n) {
         Reading::Unread { number, line } => Listing::Unlisted { number, line },
         Reading::Accepted => list_fitting(t, list, n, out),
     }

@@ -4,10 +4,9 @@ use file_fields::list_fields;
 use file_fields::place_of;
 use file_fields::start_of;
 use file_fields::value_of;
-use file_read::read_fields;
+use file_read::rule_fields;
 use paper::Map;
 use paper::Reading;
-use paper::limit;
 use text_keys::rows;
 ghost use mathlib.Core.Path.{_≡_};
 ghost use Prim.Native.Nat.{_+_, _*_, _≤_};
@@ -75,7 +74,7 @@ fn name_among(t: &[u8], list: &[u32], n: usize, place: usize, d: usize) -> Place
     Place { start: 0, end: 0 }
 }
 
-// The rules, as the reader has them: it is lent a table that nobody looks at.
+// The rules, as the reader has them.
 fn name_in_fields(t: &[u8], list: &[u32], n: usize, map: Map, domain: usize) -> Place
     requires { ⌜ Sound (now t) (now list) n ⌝ }
     requires { ⌜ n ≤ mostFields ⌝ }
@@ -83,8 +82,7 @@ fn name_in_fields(t: &[u8], list: &[u32], n: usize, map: Map, domain: usize) -> 
     ensures { λ r. ⌜ stretchIn (now (t .entry)) r ≡ nameIn map domain (ruled (between (now (t .entry)) (now (list .entry)) 0 n)) ⌝ }
     ensures { λ r. ⌜ EndsWithBytes (now (t .entry)) r ⌝ }
 {
-    let mut table = [0u16; limit::TABLE_WORDS];
-    match read_fields(t, list, n, &mut table) {
+    match rule_fields(t, list, n) {
         Reading::Unread { number: _, line: _ } => Place { start: 0, end: 0 },
         Reading::Accepted => name_among(t, list, n, names_of(map), domain),
     }

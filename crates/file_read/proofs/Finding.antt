@@ -19,6 +19,7 @@ use Rattle.file_fields.specs.declared.Found.{Found}
 use Rattle.file_fields.specs.declared.Found.the-variants.{Listed, Refused}
 use Rattle.file_names.specs.Naming.{Sound}
 use Rattle.file_read.specs.Readable.{Readable}
+use Rattle.file_read.specs.Lent.{Left}
 use Rattle.file_read.proofs.Pages.{text-readable, text-short, text-fault-fits}
 use Rattle.file_read.proofs.Asked.{sound}
 use Rattle.file_read.proofs.Ruling.{text-refused, text-zero, text-read, text-words}
@@ -67,8 +68,9 @@ module _ (t list : List ℕ) (r : Found) (e : foundIn t list r ≡ textPage t) w
     pub fields-answer : (s : Reading) → s ≡ readingOf (ruled (between t list 0 n)) → s ≡ readingOf (fileOf t)
     fields-answer s f = text-read t (between t list 0 n) s listed f
 
-    pub fields-leave : (table after : List ℕ) → after ≡ wordsRead (ruled (between t list 0 n)) ++ drop tableWords table → after ≡ wordsRead (fileOf t) ++ drop tableWords table
-    fields-leave table after f = text-words t (between t list 0 n) table after listed f
+    pub fields-leave : (table after : List ℕ) → tableWords ≤ length table → Left (ruled (between t list 0 n)) table after
+        → after ≡ wordsRead (fileOf t) ++ drop tableWords table
+    fields-leave table after h f = text-words t (between t list 0 n) table after listed h f
 
 -- ---- fields held to the rules
 

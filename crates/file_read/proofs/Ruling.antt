@@ -15,6 +15,7 @@ use Rattle.paper.specs.Table.{wordsOf}
 use Rattle.paper.specs.Rules.{unlessLine, overLimit, namedTwice, unknownName, unboundVariable, twinPrincipal, ruled}
 use Rattle.paper.specs.Promises.{textPage, fileOf, readingOf, readAnswer, wordsRead, readLeaves}
 use Rattle.file_read.specs.Ruled.{knownRuled, namesRuled}
+use Rattle.file_read.specs.Lent.{Cleared, Left}
 
 unless-fault : (k line : ℕ) (o : Outcome) → (line ≡ 0 → ⊥) → unlessLine k line o ≡ fault k line
 unfolding unlessLine
@@ -35,16 +36,16 @@ module _ (o : Outcome) (k line : ℕ) (e : o ≡ fault k line) where
   answers : (r : Reading) → r ≡ Unread k line → r ≡ readingOf o
   answers r q = q ∙ rw e refl
 
-  leaves : (table : List ℕ) → take tableWords table ≡ replicate tableWords 0 → table ≡ wordsRead o ++ drop tableWords table
-  leaves table z = rw e (zero-front tableWords table z)
+  leaves : (table : List ℕ) → Cleared table → Left o table table
+  leaves table z = record { words = λ h. rw e (zero-front tableWords table (z .clear h)) }
 
 -- an outcome that is another one's
 module _ (o p : Outcome) (e : o ≡ p) where
   answers-on : (r : Reading) → r ≡ readingOf p → r ≡ readingOf o
   answers-on r q = q ∙ sym (ap readingOf e)
 
-  leaves-on : (table after : List ℕ) → after ≡ wordsRead p ++ drop tableWords table → after ≡ wordsRead o ++ drop tableWords table
-  leaves-on table after q = q ∙ rw e refl
+  leaves-on : (table after : List ℕ) → Left p table after → Left o table after
+  leaves-on table after q = record { words = λ h. q .words h ∙ rw e refl }
 
 -- ---- 6, then 7
 
@@ -57,7 +58,7 @@ module _ (fs : List Field) (over : ℕ) (e : over ≡ overLimit fs) where
     pub over-answers : (r : Reading) → r ≡ Unread 6 over → r ≡ readingOf (ruled fs)
     over-answers r q = answers (ruled fs) 6 over refused-over r q
 
-    pub over-leaves : (table : List ℕ) → take tableWords table ≡ replicate tableWords 0 → table ≡ wordsRead (ruled fs) ++ drop tableWords table
+    pub over-leaves : (table : List ℕ) → Cleared table → Left (ruled fs) table table
     over-leaves table z = leaves (ruled fs) 6 over refused-over table z
 
   module _ (none : over ≡ 0) (twice : ℕ) (f : twice ≡ namedTwice fs) where
@@ -69,7 +70,7 @@ module _ (fs : List Field) (over : ℕ) (e : over ≡ overLimit fs) where
       pub twice-answers : (r : Reading) → r ≡ Unread 7 twice → r ≡ readingOf (ruled fs)
       twice-answers r q = answers (ruled fs) 7 twice refused-twice r q
 
-      pub twice-leaves : (table : List ℕ) → take tableWords table ≡ replicate tableWords 0 → table ≡ wordsRead (ruled fs) ++ drop tableWords table
+      pub twice-leaves : (table : List ℕ) → Cleared table → Left (ruled fs) table table
       twice-leaves table z = leaves (ruled fs) 7 twice refused-twice table z
 
     module _ (once : twice ≡ 0) where
@@ -80,7 +81,7 @@ module _ (fs : List Field) (over : ℕ) (e : over ≡ overLimit fs) where
       pub named-answers : (r : Reading) → r ≡ readingOf (namesRuled fs) → r ≡ readingOf (ruled fs)
       named-answers = answers-on (ruled fs) (namesRuled fs) names-left
 
-      pub named-leaves : (table after : List ℕ) → after ≡ wordsRead (namesRuled fs) ++ drop tableWords table → after ≡ wordsRead (ruled fs) ++ drop tableWords table
+      pub named-leaves : (table after : List ℕ) → Left (namesRuled fs) table after → Left (ruled fs) table after
       named-leaves = leaves-on (ruled fs) (namesRuled fs) names-left
 
 -- ---- 8
@@ -94,7 +95,7 @@ module _ (fs : List Field) (unknown : ℕ) (e : unknown ≡ unknownName fs) wher
     pub unknown-answers : (r : Reading) → r ≡ Unread 8 unknown → r ≡ readingOf (namesRuled fs)
     unknown-answers r q = answers (namesRuled fs) 8 unknown refused-unknown r q
 
-    pub unknown-leaves : (table : List ℕ) → take tableWords table ≡ replicate tableWords 0 → table ≡ wordsRead (namesRuled fs) ++ drop tableWords table
+    pub unknown-leaves : (table : List ℕ) → Cleared table → Left (namesRuled fs) table table
     unknown-leaves table z = leaves (namesRuled fs) 8 unknown refused-unknown table z
 
   module _ (known : unknown ≡ 0) where
@@ -105,7 +106,7 @@ module _ (fs : List Field) (unknown : ℕ) (e : unknown ≡ unknownName fs) wher
     pub known-answers : (r : Reading) → r ≡ readingOf (knownRuled fs) → r ≡ readingOf (namesRuled fs)
     known-answers = answers-on (namesRuled fs) (knownRuled fs) known-left
 
-    pub known-leaves : (table after : List ℕ) → after ≡ wordsRead (knownRuled fs) ++ drop tableWords table → after ≡ wordsRead (namesRuled fs) ++ drop tableWords table
+    pub known-leaves : (table after : List ℕ) → Left (knownRuled fs) table after → Left (namesRuled fs) table after
     known-leaves = leaves-on (namesRuled fs) (knownRuled fs) known-left
 
 -- ---- 10, then 11, then the words
@@ -119,7 +120,7 @@ module _ (fs : List Field) (unbound : ℕ) (f : unbound ≡ unboundVariable fs) 
     pub unbound-answers : (r : Reading) → r ≡ Unread 10 unbound → r ≡ readingOf (knownRuled fs)
     unbound-answers r q = answers (knownRuled fs) 10 unbound refused-unbound r q
 
-    pub unbound-leaves : (table : List ℕ) → take tableWords table ≡ replicate tableWords 0 → table ≡ wordsRead (knownRuled fs) ++ drop tableWords table
+    pub unbound-leaves : (table : List ℕ) → Cleared table → Left (knownRuled fs) table table
     unbound-leaves table z = leaves (knownRuled fs) 10 unbound refused-unbound table z
 
   module _ (bound : unbound ≡ 0) (twin : ℕ) (g : twin ≡ twinPrincipal fs) where
@@ -131,7 +132,7 @@ module _ (fs : List Field) (unbound : ℕ) (f : unbound ≡ unboundVariable fs) 
       pub twin-answers : (r : Reading) → r ≡ Unread 11 twin → r ≡ readingOf (knownRuled fs)
       twin-answers r q = answers (knownRuled fs) 11 twin refused-twin r q
 
-      pub twin-leaves : (table : List ℕ) → take tableWords table ≡ replicate tableWords 0 → table ≡ wordsRead (knownRuled fs) ++ drop tableWords table
+      pub twin-leaves : (table : List ℕ) → Cleared table → Left (knownRuled fs) table table
       twin-leaves table z = leaves (knownRuled fs) 11 twin refused-twin table z
 
     module _ (alone : twin ≡ 0) where
@@ -142,8 +143,18 @@ module _ (fs : List Field) (unbound : ℕ) (f : unbound ≡ unboundVariable fs) 
       pub accepts : Accepted ≡ readingOf (knownRuled fs)
       accepts = rw holds refl
 
-      pub writes : (table after : List ℕ) → after ≡ wordsOf (policyOf fs) ++ drop tableWords table → after ≡ wordsRead (knownRuled fs) ++ drop tableWords table
-      writes table after q = q ∙ rw holds refl
+      pub writes : (table after : List ℕ) → after ≡ wordsOf (policyOf fs) ++ drop tableWords table → Left (knownRuled fs) table after
+      writes table after q = record { words = λ h. q ∙ rw holds refl }
+
+-- no words are wanted
+pub keeps : (o : Outcome) (table : List ℕ) → length table < tableWords → Left o table table
+keeps o table s = record { words = λ h. absurd (omega arith) }
+
+pub is-cleared : (table : List ℕ) → take tableWords table ≡ replicate tableWords 0 → Cleared table
+is-cleared table z = record { clear = λ h. z }
+
+pub short-cleared : Cleared (replicate 1 0)
+short-cleared = record { clear = λ h. absurd (omega (arith, length-replicate {A = ℕ} 1 0)) }
 
 -- ---- a text, with a table that has room or has not
 
@@ -160,9 +171,10 @@ module _ (t : List ℕ) where
   unfolding fileOf
   text-read fs r e q = q ∙ rw (← e) refl
 
-  pub text-words : (fs : List Field) (table after : List ℕ) → fields fs ≡ textPage t → after ≡ wordsRead (ruled fs) ++ drop tableWords table → after ≡ wordsRead (fileOf t) ++ drop tableWords table
+  pub text-words : (fs : List Field) (table after : List ℕ) → fields fs ≡ textPage t → tableWords ≤ length table → Left (ruled fs) table after
+      → after ≡ wordsRead (fileOf t) ++ drop tableWords table
   unfolding fileOf
-  text-words fs table after e q = q ∙ rw (← e) refl
+  text-words fs table after e h q = q .words h ∙ rw (← e) refl
 
   module _ (table : List ℕ) where
     module _ (h : length table < tableWords) where

@@ -1,3 +1,4 @@
 pub mod Readable
 pub mod Ruled
 pub mod Numbered
+pub mod Lent

@@ -32,6 +32,7 @@ ghost use Rattle.file_names.specs.Naming.{Sound};
 ghost use Rattle.file_read.specs.Readable.{Readable};
 ghost use Rattle.file_read.specs.Ruled.{knownRuled, namesRuled};
 ghost use Rattle.file_read.specs.Numbered.{Numbered};
+ghost use Rattle.file_read.specs.Lent.{Cleared, Left};
 
 // Room for the domains of one map in an index.
 const DOMAINS_SIZE: usize = layout::NAMES_AT + layout::NAME_SIZE * limit::DOMAINS;
@@ -46,7 +47,7 @@ fn refused(number: u16, line: usize) -> Reading
     }
 }
 
-// 10 and 11, and then the table, of a file that names nothing unknown.
+// 10 and 11, and then the table, of a file that names nothing unknown. A table that is too short for the words is left as it is.
 fn read_known(
     t: &[u8],
     list: &[u32],
@@ -58,10 +59,9 @@ fn read_known(
     table: &mut [u16],
 ) -> Reading
     requires { ⌜ Numbered (now t) (now list) n (now «subjects_ix») names (now words) (now starts) ⌝ }
-    requires { ⌜ take tableWords (now table) ≡ replicate tableWords 0 ⌝ }
-    requires { ⌜ tableWords ≤ length (now table) ⌝ }
+    requires { ⌜ Cleared (now table) ⌝ }
     ensures { λ r. ⌜ r ≡ readingOf (knownRuled (between (now (t .entry)) (now (list .entry)) 0 n)) ⌝ }
-    ensures { λ r. ⌜ now (table .exit) ≡ wordsRead (knownRuled (between (now (t .entry)) (now (list .entry)) 0 n)) ++ drop tableWords (now (table .entry)) ⌝ }
+    ensures { λ r. ⌜ Left (knownRuled (between (now (t .entry)) (now (list .entry)) 0 n)) (now (table .entry)) (now (table .exit)) ⌝ }
 {
     let unbound = unbound_line(t, list, n);
     if unbound != NO_LINE {
@@ -70,6 +70,9 @@ fn read_known(
     let twin = twin_line(t, list, n);
     if twin != NO_LINE {
         return refused(refusal::SAME_PRINCIPAL, twin);
+    }
+    if table.len() < limit::TABLE_WORDS {
+        return Reading::Accepted;
     }
     write_table(
         t,
@@ -98,10 +101,9 @@ fn read_named(
     table: &mut [u16],
 ) -> Reading
     requires { ⌜ Numbered (now t) (now list) n (now «subjects_ix») names (now words) (now starts) ⌝ }
-    requires { ⌜ take tableWords (now table) ≡ replicate tableWords 0 ⌝ }
-    requires { ⌜ tableWords ≤ length (now table) ⌝ }
+    requires { ⌜ Cleared (now table) ⌝ }
     ensures { λ r. ⌜ r ≡ readingOf (namesRuled (between (now (t .entry)) (now (list .entry)) 0 n)) ⌝ }
-    ensures { λ r. ⌜ now (table .exit) ≡ wordsRead (namesRuled (between (now (t .entry)) (now (list .entry)) 0 n)) ++ drop tableWords (now (table .entry)) ⌝ }
+    ensures { λ r. ⌜ Left (namesRuled (between (now (t .entry)) (now (list .entry)) 0 n)) (now (table .entry)) (now (table .exit)) ⌝ }
 {
     let unknown = unknown_line(
         t,
@@ -120,14 +122,13 @@ fn read_named(
 }
 
 // The rules over the whole file, and then the table.
-pub fn read_fields(t: &[u8], list: &[u32], n: usize, table: &mut [u16]) -> Reading
+fn read_fields(t: &[u8], list: &[u32], n: usize, table: &mut [u16]) -> Reading
     requires { ⌜ Sound (now t) (now list) n ⌝ }
     requires { ⌜ n ≤ mostFields ⌝ }
     requires { ⌜ Readable (between (now t) (now list) 0 n) ⌝ }
-    requires { ⌜ take tableWords (now table) ≡ replicate tableWords 0 ⌝ }
-    requires { ⌜ tableWords ≤ length (now table) ⌝ }
+    requires { ⌜ Cleared (now table) ⌝ }
     ensures { λ r. ⌜ r ≡ readingOf (ruled (between (now (t .entry)) (now (list .entry)) 0 n)) ⌝ }
-    ensures { λ r. ⌜ now (table .exit) ≡ wordsRead (ruled (between (now (t .entry)) (now (list .entry)) 0 n)) ++ drop tableWords (now (table .entry)) ⌝ }
+    ensures { λ r. ⌜ Left (ruled (between (now (t .entry)) (now (list .entry)) 0 n)) (now (table .entry)) (now (table .exit)) ⌝ }
 {
     let over = over_limit(t, list, n);
     if over != NO_LINE {
@@ -156,6 +157,17 @@ pub fn read_fields(t: &[u8], list: &[u32], n: usize, table: &mut [u16]) -> Readi
         return refused(refusal::TWICE, twice);
     }
     read_named(t, list, n, &subjects_ix, names, &words, &starts, table)
+}
+
+// The rules over the whole file, and no table.
+pub fn rule_fields(t: &[u8], list: &[u32], n: usize) -> Reading
+    requires { ⌜ Sound (now t) (now list) n ⌝ }
+    requires { ⌜ n ≤ mostFields ⌝ }
+    requires { ⌜ Readable (between (now t) (now list) 0 n) ⌝ }
+    ensures { λ r. ⌜ r ≡ readingOf (ruled (between (now (t .entry)) (now (list .entry)) 0 n)) ⌝ }
+{
+    let mut short = [0u16; 1];
+    read_fields(t, list, n, &mut short)
 }
 
 // A text with a table that has room.

@@ -58,7 +58,7 @@ returns-2 c =
     let twice = c .before .if2 .taken in (
       twice-answers _ _ over none _ (names .0) twice _ (c .refused2 .ensures),
       twice-leaves _ _ over none _ (names .0) twice _ (c .before .before .before .before .before .before .before .before .before .before .before .before
-          .before .before .before .before .before .before .pre .1 .1 .1 .0),
+          .before .before .before .before .before .before .pre .1 .1 .1),
     )
 
 slice-aggregate-read-named : tie.Need-slice-aggregate-read-named

@@ -1,6 +1,6 @@
--- Each rule that names a line refuses; where none does, the words are written.
+-- Each rule that names a line refuses; where none does, the words are written if they are wanted.
 use Rattle.file_read.proofs.Asked.{unbound-fits, twin-fits, few-entries}
-use Rattle.file_read.proofs.Ruling.{unbound-answers, unbound-leaves, twin-answers, twin-leaves, accepts, writes}
+use Rattle.file_read.proofs.Ruling.{unbound-answers, unbound-leaves, twin-answers, twin-leaves, accepts, writes, keeps}
 use borrow.Author.Needs.{needs}
 use Rattle.file_read.proofs.read_known.Statement.{statement}
 use Rattle.file_read.proofs.read_known.Tie as tie
@@ -25,16 +25,20 @@ refused-requires-2 c κs = search (needs, twin-fits, c .before .before .before .
 returns-2 : tie.Need-returns-2
 returns-2 c = search (needs, twin-answers, twin-leaves)
 
+returns-3 : tie.Need-returns-3
+returns-3 c = search (needs, accepts, keeps)
+
 write-table-requires : tie.Need-write-table-requires
 write-table-requires c κs =
-    let pre = c .before .before .before .before .before .before .before .before .before .before .before .pre in
-    let given = pre .0 in (
+    let pre = c .before .before .before .before .before .before .before .before .before .before .before .before .pre in
+    let given = pre .0 in
+    let room = c .before .if3 .left in (
       (given .sound .room, given .few),
       (
         given .worded,
         (
           (given .of-objects, given .of-subjects, given .of-functions),
-          ((given .readable .numbered, given .within), (pre .1 .1, pre .1 .0)),
+          ((given .readable .numbered, given .within), (room, pre .1 .clear room)),
         ),
       ),
     )
@@ -42,8 +46,8 @@ write-table-requires c κs =
 same-length : tie.Need-same-length
 same-length c = search needs
 
-returns-3 : tie.Need-returns-3
-returns-3 c = search (needs, accepts, writes)
+returns-4 : tie.Need-returns-4
+returns-4 c = search (needs, accepts, writes)
 
 pub read-known-spec : {M : Type 1} → statement M
 read-known-spec =
@@ -55,6 +59,7 @@ read-known-spec =
     twin-line-requires
     refused-requires-2
     returns-2
+    returns-3
     write-table-requires
     same-length
-    returns-3)
+    returns-4)

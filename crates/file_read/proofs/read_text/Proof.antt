@@ -1,5 +1,6 @@
 -- What was found of the text is its answer.
 use Rattle.file_read.proofs.Finding.{fields-sound, fields-few, fields-readable, refusal-answers, refusal-leaves, fields-answer, fields-leave, refusal-fits}
+use Rattle.file_read.proofs.Ruling.{is-cleared}
 use borrow.Author.Needs.{needs}
 use Rattle.file_read.proofs.read_text.Statement.{statement}
 use Rattle.file_read.proofs.read_text.Tie as tie
@@ -23,7 +24,7 @@ slice-aggregate-read-fields : tie.Need-slice-aggregate-read-fields
 slice-aggregate-read-fields c = search needs
 
 read-fields-requires : tie.Need-read-fields-requires
-read-fields-requires c κs = (search (needs, fields-sound), (search (needs, fields-few), (search (needs, fields-readable), (search needs, search needs))))
+read-fields-requires c κs = (search (needs, fields-sound), (search (needs, fields-few), (search (needs, fields-readable), search (needs, is-cleared))))
 
 returns : tie.Need-returns
 returns c = search (needs, fields-answer, fields-leave, refusal-answers, refusal-leaves)
