@@ -74,7 +74,7 @@ module _ (list : List ℕ) (place key : ℕ) (l : isKey place key ≡ true) wher
 
 -- the keys
 module _ (place : ℕ) where
-  key-at : (key : ℕ) → place < key → key ≤ place + 4 → isKey place key ≡ true
+  pub key-at : (key : ℕ) → place < key → key ≤ place + 4 → isKey place key ≡ true
   key-at key h l = rw (lt-ltb place key h, le-leb key (place + 4) l) refl
 
 module _ (t list words starts : List ℕ) (place from to first : ℕ) (e : first ≡ nextKey list place from (to - from)) where
@@ -88,7 +88,7 @@ module _ (t list words starts : List ℕ) (place from to first : ℕ) (e : first
         (λ (h : to < from). rw (nothing-skipped h) refl)
         (le-or-lt from to)
 
-    value-skipped : valueAt key (between t list first to) ≡ valueAt key (between t list from to)
+    pub value-skipped : valueAt key (between t list first to) ≡ valueAt key (between t list from to)
     value-skipped = ⊎-elim
         (λ (h : from ≤ to). let f : from + (to - from) ≡ to = omega arith in rw e (rw f at (skip-value list place key l t (to - from) from)))
         (λ (h : to < from). rw (nothing-skipped h) refl)

@@ -104,7 +104,7 @@ fn is_key(place: usize, p: usize) -> bool
 }
 
 // The number of the next field at a key of the context at a place; where there is none, the other number.
-fn next_key(list: &[u32], place: usize, from: usize, to: usize) -> usize
+pub fn next_key(list: &[u32], place: usize, from: usize, to: usize) -> usize
     requires { ⌜ (fieldSize * to ≤ length (now list)) × IsContext place ⌝ }
     ensures { λ r. ⌜ r ≡ nextKey (now (list .entry)) place from (to - from) ⌝ }
 {

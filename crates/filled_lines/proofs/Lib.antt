@@ -2,3 +2,4 @@ pub mod Putting
 pub mod Writing
 pub mod Lines
 mod Keys
+pub mod Omitted

@@ -9,6 +9,7 @@ ghost use Rattle.paper.specs.Listing.{keyAt};
 ghost use Rattle.paper.specs.Filled.{keyLine, bareLine};
 ghost use Rattle.text_keys.specs.Rows.{keyText};
 ghost use Rattle.filled_lines.specs.Wrote.{Fits, Wrote};
+ghost use Rattle.filled_lines.specs.Omitted.{omittedKeys};
 
 // Bytes as they are.
 fn put(s: &[u8], out: &mut [u8]) -> usize
@@ -67,6 +68,17 @@ fn key_at(place: usize, out: &mut [u8]) -> usize
 {
     let key = rows::row_at(place).key;
     put_key(key, out)
+}
+
+// The keys of a context that has none of them.
+pub fn omitted_keys(out: &mut [u8]) -> usize
+    requires { ⌜ Fits omittedKeys (now out) ⌝ }
+    ensures { λ r. ⌜ Wrote omittedKeys (now (out .entry)) (now (out .exit)) r ⌝ }
+{
+    put(
+        b"      call_context: [all]\n      uid: all\n      gid: all\n      namespace: all\n",
+        out,
+    )
 }
 
 pub fn bare_line(place: usize, out: &mut [u8]) -> usize

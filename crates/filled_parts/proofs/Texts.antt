@@ -13,7 +13,11 @@ use Rattle.paper.specs.Entries.{stretchesFrom, itemsOf}
 use Rattle.paper.specs.Filled.{bareLine, valueLine, contextText, itemText, accessText}
 use Rattle.file_fields.specs.Fields.{between, nextAt}
 use Rattle.file_fields.proofs.Walking.{walked, stretches-first, stretches-more, stretches-none}
+use Rattle.file_fields.specs.Places.{IsContext}
+use Rattle.file_blocks.specs.Written.{nextKey}
 use Rattle.filled_lines.specs.Wrote.{Wrote}
+use Rattle.filled_lines.specs.Omitted.{omittedKeys}
+use Rattle.filled_lines.proofs.Omitted.{context-skipped, context-omitted}
 use Rattle.filled_parts.specs.Parts.{idsText}
 use Rattle.filled_lines.proofs.Writing.{left, over, wrote-on, first-room, last-room}
 
@@ -40,6 +44,22 @@ module _ (place : ℕ) (fs : List Field) (old : List ℕ) where
         → Wrote (contextText place fs) old out n
     unfolding contextText idsText
     context-wrote w = w
+
+module _ (t list : List ℕ) (place from to first : ℕ) (e : first ≡ nextKey list place from (to - from)) (old : List ℕ) where
+  pub found-room : length (contextText place (between t list from to)) ≤ length old → length (contextText place (between t list first to)) ≤ length old
+  found-room h = rw (context-skipped t list place from to first e) h
+
+  pub found-wrote : (out : List ℕ) (n : ℕ) → Wrote (contextText place (between t list first to)) old out n
+      → Wrote (contextText place (between t list from to)) old out n
+  found-wrote out n w = rw (context-skipped t list place from to first e) at w
+
+  module _ (which : IsContext place) (k : to ≤ first) where
+    pub omitted-room : length (contextText place (between t list from to)) ≤ length old → length (bareLine place ++ omittedKeys) ≤ length old
+    omitted-room h = rw (context-omitted t list place from to first e which k) at h
+
+    pub omitted-wrote : (out : List ℕ) (n : ℕ) → Wrote (bareLine place ++ omittedKeys) old out n
+        → Wrote (contextText place (between t list from to)) old out n
+    omitted-wrote out n w = rw (context-omitted t list place from to first e which k) w
 
 -- ---- an item
 

@@ -1,19 +1,22 @@
 // The parts of an entry of the filled text written, contexts, items and accesses: each function writes the text that the paper or
 // specs/Parts.antt gives its name at the front of what it is lent, and answers how far it wrote.
+use file_blocks::next_key;
 use file_fields::next_at;
 use file_fields::value_at;
 use filled_lines::bare_line;
 use filled_lines::key_line;
+use filled_lines::omitted_keys;
 use text_keys::rows;
 ghost use mathlib.Core.Path.{_≡_};
-ghost use mathlib.Core.List.{flatMap};
+ghost use mathlib.Core.List.{_++_, flatMap};
 ghost use Prim.Native.Nat.{_*_, _≤_};
 ghost use lib.ListN.{length};
 ghost use Rattle.paper.specs.Entries.{defaultAt, itemsOf};
-ghost use Rattle.paper.specs.Filled.{valueLine, contextText, itemText, accessText};
+ghost use Rattle.paper.specs.Filled.{bareLine, valueLine, contextText, itemText, accessText};
 ghost use Rattle.file_fields.specs.Fields.{fieldSize, between};
 ghost use Rattle.file_fields.specs.Places.{IsAccess, IsContext};
 ghost use Rattle.filled_lines.specs.Wrote.{Fits, Wrote};
+ghost use Rattle.filled_lines.specs.Omitted.{omittedKeys};
 ghost use Rattle.filled_parts.specs.Parts.{idsText};
 
 // The value at a place among the fields from one number up to another, or its default.
@@ -50,7 +53,8 @@ fn ids(t: &[u8], list: &[u32], place: usize, from: usize, to: usize, out: &mut [
     b + value_line(t, list, namespace, from, to, b"all", &mut out[b..])
 }
 
-pub fn context(
+// A context with some of its keys.
+fn found_context(
     t: &[u8],
     list: &[u32],
     place: usize,
@@ -67,6 +71,36 @@ pub fn context(
     let call_context = place + rows::CALL_CONTEXT;
     let b = a + value_line(t, list, call_context, from, to, b"[all]", &mut out[a..]);
     b + ids(t, list, place, from, to, &mut out[b..])
+}
+
+// A context with none of its keys.
+fn omitted_context(place: usize, out: &mut [u8]) -> usize
+    requires { ⌜ Fits (bareLine place ++ omittedKeys) (now out) ⌝ }
+    ensures { λ r. ⌜ Wrote (bareLine place ++ omittedKeys) (now (out .entry)) (now (out .exit)) r ⌝ }
+{
+    let end = bare_line(place, out);
+    end + omitted_keys(&mut out[end..])
+}
+
+// A context: most have no key, and one is looked for first.
+pub fn context(
+    t: &[u8],
+    list: &[u32],
+    place: usize,
+    from: usize,
+    to: usize,
+    out: &mut [u8],
+) -> usize
+    requires { ⌜ fieldSize * to ≤ length (now list) ⌝ }
+    requires { ⌜ IsContext place ⌝ }
+    requires { ⌜ Fits (contextText place (between (now t) (now list) from to)) (now out) ⌝ }
+    ensures { λ r. ⌜ Wrote (contextText place (between (now (t .entry)) (now (list .entry)) from to)) (now (out .entry)) (now (out .exit)) r ⌝ }
+{
+    let first = next_key(list, place, from, to);
+    if to <= first {
+        return omitted_context(place, out);
+    }
+    found_context(t, list, place, first, to, out)
 }
 
 fn item(t: &[u8], list: &[u32], access: usize, from: usize, to: usize, out: &mut [u8]) -> usize

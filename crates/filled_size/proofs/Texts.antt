@@ -12,6 +12,8 @@ use Rattle.paper.specs.Entries.{itemsOf, entriesOf}
 use Rattle.paper.specs.Filled.{bareLine, writtenLine, valueLine, contextText, itemText, accessText, entryText, filledText}
 use Rattle.file_fields.specs.Fields.{between, nextAt}
 use Rattle.file_fields.proofs.Between.{before-next}
+use Rattle.file_blocks.specs.Written.{nextKey}
+use Rattle.filled_lines.proofs.Omitted.{context-skipped}
 use Rattle.file_fields.proofs.Walking.{walked, stretches-first, stretches-more, stretches-none}
 
 module _ (place : ℕ) (fs : List Field) where
@@ -25,6 +27,10 @@ module _ (place : ℕ) (fs : List Field) where
       → a + b ≡ length (itemText place fs)
   unfolding itemText
   item-length a b p q = rw (p, q, length-append) refl
+
+pub found-length : (t list : List ℕ) (place from to first r : ℕ) → first ≡ nextKey list place from (to - from)
+    → r ≡ length (contextText place (between t list first to)) → r ≡ length (contextText place (between t list from to))
+found-length t list place from to first r e q = q ∙ rw (context-skipped t list place from to first e) refl
 
 pub entry-length : (fs : List Field) (a b c d e f g : ℕ) → a ≡ length (bareLine principal) → b ≡ length (valueLine subjectOfEntry fs)
     → c ≡ length (contextText executionContext fs) → d ≡ length (valueLine canCall fs) → e ≡ length (valueLine canReturn fs)

@@ -1,4 +1,5 @@
 // How long the filled text is, measured over the list of fields: each function is as long as the text that the paper gives that name.
+use file_blocks::next_key;
 use file_fields::next_at;
 use file_fields::place_of;
 use file_fields::value_at;
@@ -16,6 +17,9 @@ ghost use Rattle.file_fields.specs.Fields.{fieldSize, fieldAt, between};
 ghost use Rattle.file_fields.specs.Listed.{mostFields};
 ghost use Rattle.file_fields.specs.Places.{IsAccess, IsContext};
 ghost use Rattle.filled_size.specs.Most.{mostLine, mostItem, mostEntry};
+
+// How long the keys of a context are where each is omitted.
+const OMITTED_KEYS: usize = 77;
 
 fn bare_line(place: usize) -> usize
     ensures { λ r. ⌜ (r ≡ length (bareLine place)) × (r ≤ mostLine) ⌝ }
@@ -49,7 +53,8 @@ fn value_line<'a>(
     key_line(place, v)
 }
 
-fn context(t: &[u8], list: &[u32], place: usize, from: usize, to: usize) -> usize
+// A context with some of its keys.
+fn found_context(t: &[u8], list: &[u32], place: usize, from: usize, to: usize) -> usize
     requires { ⌜ (fieldSize * to ≤ length (now list)) × (length (now t) ≤ textBytes) ⌝ }
     requires { ⌜ IsContext place ⌝ }
     ensures { λ r. ⌜ (r ≡ length (contextText place (between (now (t .entry)) (now (list .entry)) from to))) × (r ≤ 5 * mostLine) ⌝ }
@@ -59,6 +64,19 @@ fn context(t: &[u8], list: &[u32], place: usize, from: usize, to: usize) -> usiz
     let gid = value_line(t, list, place + rows::GID, from, to, b"all");
     let namespace = value_line(t, list, place + rows::NAMESPACE, from, to, b"all");
     bare_line(place) + (call_context + (uid + (gid + namespace)))
+}
+
+// A context: most have no key, and one is looked for first.
+fn context(t: &[u8], list: &[u32], place: usize, from: usize, to: usize) -> usize
+    requires { ⌜ (fieldSize * to ≤ length (now list)) × (length (now t) ≤ textBytes) ⌝ }
+    requires { ⌜ IsContext place ⌝ }
+    ensures { λ r. ⌜ (r ≡ length (contextText place (between (now (t .entry)) (now (list .entry)) from to))) × (r ≤ 5 * mostLine) ⌝ }
+{
+    let first = next_key(list, place, from, to);
+    if to <= first {
+        return bare_line(place) + OMITTED_KEYS;
+    }
+    found_context(t, list, place, first, to)
 }
 
 fn item(t: &[u8], list: &[u32], access: usize, from: usize, to: usize) -> usize
