@@ -1,9 +1,9 @@
 // The judge: a table and an event to a verdict. Every function here answers for any words, well formed or not, by the policy that
 // they hold; `judge` refuses a table that is not well formed before it asks.
-use judge_entries::by_entries;
 use judge_entries::is_code;
 use judge_match::Event;
 use judge_match::Ids;
+use judge_whole::by_entries;
 use paper::Access;
 use paper::FunctionNumber;
 use paper::ObjectNumber;

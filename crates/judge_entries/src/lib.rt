@@ -49,7 +49,7 @@ fn first_match(t: &[u16], functions: &[u16], event: Event, stack: &[u16]) -> usi
 }
 
 // Where an entry grants calls, or returns.
-fn code_grant_at(access: Access) -> usize
+pub fn code_grant_at(access: Access) -> usize
     ensures { λ r. ⌜ (r ≡ codeGrantAt access) × (r ≤ returnsAt) ⌝ }
 {
     match access {
@@ -100,7 +100,7 @@ fn first_granting_code(
     entries
 }
 
-fn is_write(access: Access) -> bool
+pub fn is_write(access: Access) -> bool
     ensures { λ r. ⌜ r ≡ isWrite access ⌝ }
 {
     match access {
@@ -112,14 +112,14 @@ fn is_write(access: Access) -> bool
 }
 
 // How many descriptors of an entry stand before those that are asked: writes come after reads.
-fn skipped(write: bool, reads: usize) -> usize
+pub fn skipped(write: bool, reads: usize) -> usize
     ensures { λ r. ⌜ (r ≡ cond write reads 0) × (r ≤ reads) ⌝ }
 {
     if write { reads } else { 0 }
 }
 
 // How many descriptors are asked.
-fn asked(write: bool, reads: usize, writes: usize) -> usize
+pub fn asked(write: bool, reads: usize, writes: usize) -> usize
     ensures { λ r. ⌜ (r ≡ cond write writes reads) × (r ≤ reads + writes) ⌝ }
 {
     if write { writes } else { reads }

@@ -30,7 +30,7 @@ pub struct Event {
     pub allocated: Ids,
 }
 
-fn sort_fits(sort: u16, id: u32) -> bool
+pub fn sort_fits(sort: u16, id: u32) -> bool
     ensures { λ r. ⌜ r ≡ sortFits (sortIn sort) id ⌝ }
 {
     if sort <= layout::VARIABLE {
@@ -141,7 +141,7 @@ fn fits_allocated(t: &[u16], at: usize, event: Event, allocation: &[u16]) -> boo
     judge_pattern::matches_stack(table::functions(t), table::pattern_at(t, at), allocation)
 }
 
-fn context_fits_object(t: &[u16], at: usize, event: Event, allocation: &[u16]) -> bool
+pub fn context_fits_object(t: &[u16], at: usize, event: Event, allocation: &[u16]) -> bool
     requires { ⌜ at ≤ reach ⌝ }
     ensures { λ r. ⌜ r ≡ contextFitsObject (policyIn (now (t .entry))) (contextIn (now (t .entry)) at) (binding event) (allocationOf (now (allocation .entry)) event) ⌝ }
 {

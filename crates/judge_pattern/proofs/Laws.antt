@@ -15,7 +15,7 @@ use Rattle.laws.specs.Frames.{meetsFrame}
 use Rattle.laws.proofs.Places.{drop-more}
 use Rattle.laws.proofs.Chains.{tested-false, tested-true}
 use Rattle.laws.proofs.Elements.{empty-refuses, all-takes, word-function, word-domain, word-single, at-element, at-all, at-single, at-end}
-use Rattle.judge_pattern.specs.Run.{matchesFrom, matchesLater, BehindAlls, FitsToAll, Says}
+use Rattle.judge_pattern.specs.Run.{matchesFrom, matchesLater, BehindAlls, NextMeeting, FitsToAll, Says}
 use Rattle.judge_pattern.specs.declared.Run.{Run}
 use Rattle.judge_pattern.specs.declared.Run.the-variants.{Match, Fail, Never, All}
 use Rattle.judge_pattern.proofs.Lists.{all-refuses, all-swallows, all-alone, all-twice, alls-as-one, later-at-end, later-refuses}
@@ -139,40 +139,61 @@ module _ (p : List ℕ) (i : ℕ) where
 
 -- behind the `all`s from place i on, at place a
 module _ (F p : List ℕ) (i a : ℕ) (behind : BehindAlls p i a) (s : List ℕ) (j : ℕ) where
-  pub none-swallowed : matchesLater F p i s j ≡ matchesLater F p a s (j + 0)
-  none-swallowed = let e : j + 0 ≡ j = omega arith in rw e (behind .decides F s j)
-
   pub last-all : a ≡ length p → true ≡ matchesLater F p i s j
   last-all h = let l : length p ≤ a = omega arith in sym (behind .decides F s j ∙ rw (at-end p a l) (all-alone F (drop j s)))
 
--- it has swallowed n frames in vain: what is left at place i decides
-module _ (F p : List ℕ) (i : ℕ) (s : List ℕ) (j n : ℕ) (whole : Bool) (vain : whole ≡ matchesLater F p i s (j + n)) (r : Run) (says : Says r F p i s (j + n)) where
-  pub walk-matches : r ≡ Match → true ≡ whole
-  walk-matches e = sym (vain ∙ all-takes F (map elementIn (drop i p)) (drop (j + n) s) (rw e at says))
+  pub is-there : (a ≡ length p → ⊥) → a < length p
+  is-there h = let l : a ≤ length p = behind .inPattern in omega arith
 
-  pub walk-never : r ≡ Never → false ≡ whole
-  walk-never e = sym (vain ∙ (rw e at says))
+  pub stops-there : (a < length p → getD p a 0 ≡ 0 → ⊥) → (a ≡ length p → ⊥) → getD p a 0 ≡ 0 → ⊥
+  stops-there stops h e = stops (is-there h) e
 
-  pub walk-ends : r ≡ Fail → j + n ≡ length s → false ≡ whole
-  unfolding matches swallowing
-  walk-ends e k =
-      let l : length s ≤ j + n = omega arith in
-      sym (vain ∙ rw (drop-of-length-le s l) (rw (drop-of-length-le s l) at (rw e at says)))
+  pub begins-at : (k : ℕ) → NextMeeting F p a s j k → matchesLater F p i s j ≡ matchesLater F p a s k
+  begins-at k next = behind .decides F s j ∙ next .decides
 
-  pub walk-swallows : r ≡ Fail → j + n ≤ length s → (j + n ≡ length s → ⊥) → whole ≡ matchesLater F p i s (j + (n + 1))
-  walk-swallows e h k =
-      let l : j + n < length s = omega arith in
-      let next : j + (n + 1) ≡ j + n + 1 = omega arith in
-      let fails : matchesFrom F p i s (j + n) ≡ false = rw e at says in
-      vain ∙ rw (next, drop-more s (j + n) l) (all-swallows F (map elementIn (drop i p)) (getD s (j + n) 0) (drop (j + n + 1) s) (rw (drop-more s (j + n) l) at fails))
+-- a frame that meets no `all` but another element
+module _ (F p : List ℕ) (i : ℕ) (s : List ℕ) (j : ℕ) where
+  pub none-passed : j ≤ length s → NextMeeting F p i s j j
+  none-passed h = record { further = omega arith; inStack = h; decides = refl }
 
-  pub walk-falls : (a b : ℕ) → r ≡ All a b → (from m : ℕ) → from ≤ i → (length p - from) + (length s - j) ≡ m → (length p - a) + (length s - b) < m
-  walk-falls a b e from m g h =
-      let fits : FitsToAll F p i s (j + n) a b = fits-to-all F p i s (j + n) r says a b e in
-      omega arith
+  pub one-passed :
+      (k : ℕ) (r : Bool) → NextMeeting F p i s j k → i < length p → (getD p i 0 ≡ 0 → ⊥) → k < length s → r ≡ meetsFrame F (elementIn (getD p i 0)) (getD s k 0) → r ≡ false
+      → NextMeeting F p i s j (k + 1)
+  unfolding firstMeets
+  one-passed k r so-far h n l told d =
+      let f : j ≤ k = so-far .further in
+      let fails : matchesFrom F p i s k ≡ false = at-single p i F (drop k s) h n ∙ rw (drop-more s k l, ← told, d) in
+      record {
+        further = omega arith;
+        inStack = omega arith;
+        decides = so-far .decides ∙ rw (drop-more s k l) (all-swallows F (map elementIn (drop i p)) (getD s k 0) (drop (k + 1) s) (rw (drop-more s k l) at fails));
+      }
 
-  pub walk-all : (a b : ℕ) → r ≡ All a b → (t : Bool) → t ≡ matchesLater F p a s b → t ≡ whole
-  walk-all a b e t h = h ∙ sym (vain ∙ fits-to-all F p i s (j + n) r says a b e .decidesLater)
+-- it has swallowed the frames up to place k in vain: what is left at place i decides
+module _ (F p : List ℕ) (i : ℕ) (s : List ℕ) (k : ℕ) (whole : Bool) (vain : whole ≡ matchesLater F p i s k) where
+  pub walk-ends : i < length p → (getD p i 0 ≡ 0 → ⊥) → length s ≤ k → false ≡ whole
+  walk-ends h n l =
+      sym (vain ∙ rw (at-element p i h, drop-of-length-le s l) (later-at-end F (elementIn (getD p i 0)) (word-single (getD p i 0) n) (map elementIn (drop (i + 1) p))))
+
+  module _ (r : Run) (says : Says r F p i s k) where
+    pub walk-matches : r ≡ Match → true ≡ whole
+    walk-matches e = sym (vain ∙ all-takes F (map elementIn (drop i p)) (drop k s) (rw e at says))
+
+    pub walk-never : r ≡ Never → false ≡ whole
+    walk-never e = sym (vain ∙ (rw e at says))
+
+    pub walk-swallows : r ≡ Fail → k < length s → (next : ℕ) → NextMeeting F p i s (k + 1) next → whole ≡ matchesLater F p i s next
+    walk-swallows e l next later =
+        let fails : matchesFrom F p i s k ≡ false = rw e at says in
+        vain ∙ (rw (drop-more s k l) (all-swallows F (map elementIn (drop i p)) (getD s k 0) (drop (k + 1) s) (rw (drop-more s k l) at fails)) ∙ later .decides)
+
+    pub walk-falls : (a b : ℕ) → r ≡ All a b → (from j m : ℕ) → from ≤ i → j ≤ k → (length p - from) + (length s - j) ≡ m → (length p - a) + (length s - b) < m
+    walk-falls a b e from j m g q h =
+        let fits : FitsToAll F p i s k a b = fits-to-all F p i s k r says a b e in
+        omega arith
+
+    pub walk-all : (a b : ℕ) → r ≡ All a b → (t : Bool) → t ≡ matchesLater F p a s b → t ≡ whole
+    walk-all a b e t h = h ∙ sym (vain ∙ fits-to-all F p i s k r says a b e .decidesLater)
 
 -- ---- a run from the front
 

@@ -26,6 +26,12 @@ pub record BehindAlls (p : List ℕ) (i a : ℕ) : Type 0 where
   pub inPattern : a ≤ length p
   pub decides : (F s : List ℕ) (j : ℕ) → matchesLater F p i s j ≡ matchesLater F p a s j
 
+-- from place j up to place r no frame meets the element at place i: an `all` before it swallows them
+pub record NextMeeting (F p : List ℕ) (i : ℕ) (s : List ℕ) (j r : ℕ) : Type 0 where
+  pub further : j ≤ r
+  pub inStack : r ≤ length s
+  pub decides : matchesLater F p i s j ≡ matchesLater F p i s r
+
 -- from places i and j on every element up to an `all` fits; a is the place after it, b that of the next frame
 pub record FitsToAll (F p : List ℕ) (i : ℕ) (s : List ℕ) (j a b : ℕ) : Type 0 where
   pub further : i < a

@@ -2,13 +2,13 @@
 use paper::element;
 ghost use mathlib.Core.Path.{_≡_};
 ghost use mathlib.Core.List.{map};
-ghost use Prim.Native.Nat.{_≤_};
-ghost use lib.ListN.{length};
+ghost use Prim.Native.Nat.{_<_, _≤_};
+ghost use lib.ListN.{length, getD};
 ghost use Rattle.paper.specs.Common.{allOf};
 ghost use Rattle.paper.specs.Match.{matches, isAll};
 ghost use Rattle.paper.specs.Table.{elementIn};
 ghost use Rattle.laws.specs.Frames.{meetsFrame};
-ghost use Rattle.judge_pattern.specs.Run.{Says, SaysOfTop, BehindAlls, matchesLater};
+ghost use Rattle.judge_pattern.specs.Run.{Says, SaysOfTop, BehindAlls, NextMeeting, matchesLater};
 
 // An element that is not `all` meets a frame: it is that function, or a domain that the function lies in.
 fn meets(functions: &[u16], one: u16, frame: u16) -> bool
@@ -105,7 +105,7 @@ fn up_to_all(functions: &[u16], pattern: &[u16], i: usize, stack: &[u16], j: usi
 // The first place from i on that is not `all`, or the end: `all`s that stand together swallow what one does.
 fn behind_alls(pattern: &[u16], i: usize) -> usize
     requires { ⌜ i ≤ length (now pattern) ⌝ }
-    ensures { λ r. ⌜ BehindAlls (now (pattern .entry)) i r ⌝ }
+    ensures { λ r. ⌜ BehindAlls (now (pattern .entry)) i r × (r < length (now (pattern .entry)) → getD (now (pattern .entry)) r 0 ≡ 0 → ⊥) ⌝ }
 {
     let mut a = i;
     while a < pattern.len() {
@@ -115,6 +115,22 @@ fn behind_alls(pattern: &[u16], i: usize) -> usize
         a += 1;
     }
     a
+}
+
+// The first frame from place j on that the element at a place, which is not `all`, meets; or the end.
+fn next_meeting(functions: &[u16], pattern: &[u16], i: usize, stack: &[u16], j: usize) -> usize
+    requires { ⌜ (i < length (now pattern)) × (getD (now pattern) i 0 ≡ 0 → ⊥) × (j ≤ length (now stack)) ⌝ }
+    ensures { λ r. ⌜ NextMeeting (now (functions .entry)) (now (pattern .entry)) i (now (stack .entry)) j r ⌝ }
+{
+    let one = pattern[i];
+    let mut k = j;
+    while k < stack.len() {
+        if meets(functions, one, stack[k]) {
+            return k;
+        }
+        k += 1;
+    }
+    k
 }
 
 // The pattern from place i on, behind an `all`, against the stack from place j on.
@@ -127,18 +143,14 @@ fn walk(functions: &[u16], pattern: &[u16], i: usize, stack: &[u16], j: usize) -
     if start == pattern.len() {
         return true;
     }
-    let mut swallowed = 0;
-    loop {
-        let k = j + swallowed;
+    let mut k = next_meeting(functions, pattern, start, stack, j);
+    while k < stack.len() {
         match up_to_all(functions, pattern, start, stack, k) {
             Run::Match => return true,
             Run::Never => return false,
             Run::All { rest, frame } => return walk(functions, pattern, rest, stack, frame),
             Run::Fail => {
-                if k == stack.len() {
-                    break;
-                }
-                swallowed += 1;
+                k = next_meeting(functions, pattern, start, stack, k + 1);
             }
         }
     }

@@ -2,15 +2,16 @@
 use borrow.Author.Needs.{needs}
 use Prim.Native.Nat.{ℕ, _+_, _-_, _<_, _≤_}
 use mathlib.Core.Path.{_≡_}
-use lib.ListN.{length}
+use lib.ListN.{length, getD}
 use Rattle.judge_pattern.specs.Run.{matchesLater}
-use Rattle.judge_pattern.proofs.Laws.{rest-in-pattern, rest-in-stack, none-swallowed, walk-falls, last-all, walk-matches, walk-never, walk-all, walk-ends, walk-swallows}
+use Rattle.judge_pattern.proofs.Laws.{rest-in-pattern, rest-in-stack, is-there, stops-there, begins-at, walk-falls, last-all, walk-matches, walk-never, walk-all, walk-ends, walk-swallows}
 use borrow.Fn.Kinds.{In}
 use borrow.Fn.PlainCycle.{Measures, is, falls, and}
 use Rattle.judge_pattern.proofs.walk.Reads as walk
 use Rattle.judge_pattern.proofs.walk.Kinds as walk-kinds
 use Rattle.judge_pattern.proofs.+walk.Lts-walk as walk-lts
 use Rattle.judge_pattern.proofs.behind_alls.Reads as behind-alls-reads
+use Rattle.judge_pattern.proofs.next_meeting.Reads as next-meeting-reads
 use Rattle.judge_pattern.proofs.up_to_all.Reads as up-to-all-reads
 use Rattle.judge_pattern.proofs.+walk.{statement}
 use Rattle.judge_pattern.proofs.+walk.Tie.{close}
@@ -26,14 +27,27 @@ walk-below t = and 3 walk-kinds.ps (falls 3 walk-kinds.ps _<_ μ-walk t) walk.Pr
 
 -- what is known of the functions that it calls, at measure t
 abbrev claims : ℕ → walk-lts.Claims
-claims t = (behind-alls-reads.Asked, behind-alls-reads.Learnt, up-to-all-reads.Asked, up-to-all-reads.Learnt, walk-below t, walk.Post)
+claims t = (
+  behind-alls-reads.Asked,
+  behind-alls-reads.Learnt,
+  next-meeting-reads.Asked,
+  next-meeting-reads.Learnt,
+  up-to-all-reads.Asked,
+  up-to-all-reads.Learnt,
+  walk-below t,
+  walk.Post,
+)
 
 abbrev walk-Inv-loop : walk-lts.InvT-loop
-walk-Inv-loop functions pattern i stack j start swallowed₀ swallowed =
-    (j + swallowed ≤ length stack) × (matchesLater functions pattern i stack j ≡ matchesLater functions pattern start stack (j + swallowed))
+walk-Inv-loop functions pattern i stack j start k₀ k =
+    (j ≤ k)
+    × (k ≤ length stack)
+    × (start < length pattern)
+    × (getD pattern start 0 ≡ 0 → ⊥)
+    × (matchesLater functions pattern i stack j ≡ matchesLater functions pattern start stack k)
 
 abbrev walk-μ-loop : walk-lts.MeasureT-loop
-walk-μ-loop functions pattern i stack j start swallowed₀ swallowed = length stack - (j + swallowed)
+walk-μ-loop functions pattern i stack j start k₀ k = length stack - k
 
 walk-behind-alls-requires : (t : ℕ) → walk-lts.Need-behind-alls-requires (claims t) (walk-at t) walk.Post walk-Inv-loop walk-μ-loop
 walk-behind-alls-requires t c κs = search needs
@@ -41,11 +55,11 @@ walk-behind-alls-requires t c κs = search needs
 walk-returns : (t : ℕ) → walk-lts.Need-returns (claims t) (walk-at t) walk.Post walk-Inv-loop walk-μ-loop
 walk-returns t c = search (needs, last-all)
 
-walk-loop-holds : (t : ℕ) → walk-lts.Need-loop-holds (claims t) (walk-at t) walk.Post walk-Inv-loop walk-μ-loop
-walk-loop-holds t c = search (needs, none-swallowed)
+walk-next-meeting-requires : (t : ℕ) → walk-lts.Need-next-meeting-requires (claims t) (walk-at t) walk.Post walk-Inv-loop walk-μ-loop
+walk-next-meeting-requires t c κs = search (needs, is-there, stops-there)
 
-walk-add-k : (t : ℕ) → walk-lts.Need-add-k (claims t) (walk-at t) walk.Post walk-Inv-loop walk-μ-loop
-walk-add-k t c = search needs
+walk-loop-holds : (t : ℕ) → walk-lts.Need-loop-holds (claims t) (walk-at t) walk.Post walk-Inv-loop walk-μ-loop
+walk-loop-holds t c = search (needs, is-there, stops-there, begins-at)
 
 walk-up-to-all-requires : (t : ℕ) → walk-lts.Need-up-to-all-requires (claims t) (walk-at t) walk.Post walk-Inv-loop walk-μ-loop
 walk-up-to-all-requires t c κs = search needs
@@ -66,7 +80,11 @@ walk-enum-known-rest : (t : ℕ) → walk-lts.Need-enum-known-rest (claims t) (w
 walk-enum-known-rest t c = search needs
 
 walk-walk-requires : (t : ℕ) → walk-lts.Need-walk-requires (claims t) (walk-at t) walk.Post walk-Inv-loop walk-μ-loop
-walk-walk-requires t c κs = search (needs, walk-falls, rest-in-pattern, rest-in-stack)
+walk-walk-requires t c κs =
+    let inv = c .before .before .before .before .before .loop .inv in
+    let behind = c .before .before .before .before .before .before .before .before .behind-alls .ensures .0 in
+    let further = behind .further in
+    (search (needs, walk-falls), search (needs, rest-in-pattern, rest-in-stack))
 
 walk-returns-4 : (t : ℕ) → walk-lts.Need-returns-4 (claims t) (walk-at t) walk.Post walk-Inv-loop walk-μ-loop
 walk-returns-4 t c = search (needs, walk-all)
@@ -74,14 +92,23 @@ walk-returns-4 t c = search (needs, walk-all)
 walk-enum-told-3 : (t : ℕ) → walk-lts.Need-enum-told-3 (claims t) (walk-at t) walk.Post walk-Inv-loop walk-μ-loop
 walk-enum-told-3 t c = search needs
 
-walk-add-swallowed : (t : ℕ) → walk-lts.Need-add-swallowed (claims t) (walk-at t) walk.Post walk-Inv-loop walk-μ-loop
-walk-add-swallowed t c = search needs
+walk-add-next-meeting : (t : ℕ) → walk-lts.Need-add-next-meeting (claims t) (walk-at t) walk.Post walk-Inv-loop walk-μ-loop
+walk-add-next-meeting t c = search needs
+
+walk-next-meeting-requires-2 : (t : ℕ) → walk-lts.Need-next-meeting-requires-2 (claims t) (walk-at t) walk.Post walk-Inv-loop walk-μ-loop
+walk-next-meeting-requires-2 t c κs = search needs
 
 walk-loop-less : (t : ℕ) → walk-lts.Need-loop-less (claims t) (walk-at t) walk.Post walk-Inv-loop walk-μ-loop
 walk-loop-less t c = search needs
 
 walk-loop-again : (t : ℕ) → walk-lts.Need-loop-again (claims t) (walk-at t) walk.Post walk-Inv-loop walk-μ-loop
-walk-loop-again t c = search (needs, walk-swallows)
+walk-loop-again t c =
+    let inv = c .before .before .before .before .before .loop .inv in
+    let run = c .before .before .before .up-to-all in
+    let failed = c .before .enum-told3 .given .1 in
+    let below = c .before .before .before .before .loop-test .taken in
+    let later = c .next-meeting2 .ensures in
+    (search needs, later .inStack, inv .2, inv .3, walk-swallows _ _ _ _ _ _ (inv .4) (run .result) (run .ensures) failed below _ later)
 
 walk-returns-5 : (t : ℕ) → walk-lts.Need-returns-5 (claims t) (walk-at t) walk.Post walk-Inv-loop walk-μ-loop
 walk-returns-5 t c = search (needs, walk-ends)
@@ -94,8 +121,8 @@ pub +walk-spec : {M : Type 1} → statement M
     walk-μ-loop
     (walk-behind-alls-requires t)
     (walk-returns t)
+    (walk-next-meeting-requires t)
     (walk-loop-holds t)
-    (walk-add-k t)
     (walk-up-to-all-requires t)
     (walk-enum-told t)
     (walk-returns-2 t)
@@ -105,7 +132,8 @@ pub +walk-spec : {M : Type 1} → statement M
     (walk-walk-requires t)
     (walk-returns-4 t)
     (walk-enum-told-3 t)
-    (walk-add-swallowed t)
+    (walk-add-next-meeting t)
+    (walk-next-meeting-requires-2 t)
     (walk-loop-less t)
     (walk-loop-again t)
     (walk-returns-5 t)

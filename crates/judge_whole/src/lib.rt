@@ -1,0 +1,337 @@
+// The verdict of the entries once more, for a table that has all their words, as every well-formed one has: here no word is asked whether
+// it is there. Of any other table `judge_entries` tells.
+use judge_entries::asked;
+use judge_entries::code_grant_at;
+use judge_entries::is_code;
+use judge_entries::is_write;
+use judge_entries::skipped;
+use judge_match::Event;
+use judge_match::Ids;
+use judge_match::context_fits_object;
+use judge_match::sort_fits;
+use paper::Access;
+use paper::Operation;
+use paper::Verdict;
+use paper::limit;
+use paper::violation;
+use table::layout;
+ghost use mathlib.Core.Path.{_≡_};
+ghost use mathlib.Core.Bool.{true, false, _&&_};
+ghost use mathlib.Core.List.{[], map};
+ghost use Prim.Native.Nat.{ℕ, _+_, _*_, _<_, _≤_};
+ghost use lib.ListN.{length};
+ghost use Rattle.paper.specs.Common.{countUp};
+ghost use Rattle.paper.specs.Limits.{mostDomains};
+ghost use Rattle.paper.specs.Table.{word, namespaceAt, setSize, returnsAt, entryAt, descriptorAt, entryCount, subjectDomainCount, objectDomainCount};
+ghost use Rattle.paper.specs.Table.{readCount, writeCount, functionDomainsIn, policyIn, entryIn, contextIn, grantIn, descriptorIn, firstDescriptor};
+ghost use Rattle.paper.specs.Match.{Moment, sortsFit, entryMatches, grants, someDescriptorGrants};
+ghost use Rattle.paper.specs.Verdict.{isCode, targetDomain, entryGrants};
+ghost use Rattle.table.specs.Reach.{reach, wordValues};
+ghost use Rattle.judge_match.specs.Moments.{momentOf, binding, allocationOf, Placed, hasSubject};
+ghost use Rattle.judge_entries.specs.Passes.{firstOfAll, byAllEntries, GrantedFrom};
+ghost use Rattle.judge_whole.specs.Whole.{domainCount, Whole};
+
+// A word that the table has.
+fn word(t: &[u16], at: usize) -> u16
+    requires { ⌜ at < length (now t) ⌝ }
+    ensures { λ r. ⌜ r ≡ word (now (t .entry)) at ⌝ }
+{
+    t[at]
+}
+
+// The sorts of the context at a place fit the numbers of a moment.
+fn sorts_fit(t: &[u16], at: usize, ids: Ids) -> bool
+    requires { ⌜ (at ≤ reach) × (at + namespaceAt < length (now t)) ⌝ }
+    ensures { λ r. ⌜ r ≡ sortsFit (contextIn (now (t .entry)) at) (momentOf [] ids) ⌝ }
+{
+    if !sort_fits(word(t, at + layout::UID_AT), ids.uid) {
+        return false;
+    }
+    if !sort_fits(word(t, at + layout::GID_AT), ids.gid) {
+        return false;
+    }
+    sort_fits(word(t, at + layout::NAMESPACE_AT), ids.namespace)
+}
+
+// Entry k has the event's subject.
+fn has_subject(t: &[u16], k: usize, event: Event) -> bool
+    requires { ⌜ (entryAt k ≤ reach) × (entryAt (k + 1) ≤ length (now t)) ⌝ }
+    ensures { λ r. ⌜ r ≡ hasSubject (now (t .entry)) k event ⌝ }
+{
+    event.subject == word(t, layout::entry_at(k) + layout::SUBJECT_AT)
+}
+
+// Entry k, which has the subject, matches.
+fn moment_fits(t: &[u16], functions: &[u16], k: usize, event: Event, stack: &[u16]) -> bool
+    requires { ⌜ (entryAt k ≤ reach) × (entryAt (k + 1) ≤ length (now t)) ⌝ }
+    requires { ⌜ now functions ≡ functionDomainsIn (now t) ⌝ }
+    requires { ⌜ Placed (now t) (now stack) event ⌝ }
+    requires { ⌜ hasSubject (now t) k event ≡ true ⌝ }
+    ensures { λ r. ⌜ r ≡ entryMatches (policyIn (now (t .entry))) (entryIn (now (t .entry)) k) (momentOf (now (stack .entry)) (event .ids)) ⌝ }
+{
+    let at = layout::entry_at(k);
+    if !sorts_fit(t, at, event.ids) {
+        return false;
+    }
+    judge_pattern::matches_stack(functions, table::pattern_at(t, at), stack)
+}
+
+// The grant at a place holds domain d, which is one of those it is among.
+fn grant_holds(t: &[u16], at: usize, d: usize) -> bool
+    requires { ⌜ (at ≤ reach) × (d < mostDomains) × (at + setSize < length (now t)) ⌝ }
+    ensures { λ r. ⌜ ((domains : ℕ) → d < domains → r ≡ grants (grantIn (now (t .entry)) at domains) d) ⌝ }
+{
+    if word(t, at) == layout::EVERY {
+        return true;
+    }
+    let word_at = at + layout::SET_AT + d / 16;
+    Operation::contains(&t[word_at..word_at + 1], d % 16)
+}
+
+// The lowest entry that matches, or how many there are where none does.
+fn first_match(t: &[u16], functions: &[u16], event: Event, stack: &[u16]) -> usize
+    requires { ⌜ now functions ≡ functionDomainsIn (now t) ⌝ }
+    requires { ⌜ Placed (now t) (now stack) event ⌝ }
+    requires { ⌜ entryAt (entryCount (now t)) ≤ length (now t) ⌝ }
+    ensures { λ r. ⌜ (r ≡ firstOfAll (now (t .entry)) (momentOf (now (stack .entry)) (event .ids))) × (r ≤ entryCount (now (t .entry))) ⌝ }
+{
+    let entries = table::count(t, layout::ENTRY_COUNT_AT);
+    let mut k: usize = 0;
+    while k < entries {
+        if has_subject(t, k, event) {
+            if moment_fits(t, functions, k, event, stack) {
+                return k;
+            }
+        }
+        k += 1;
+    }
+    entries
+}
+
+// Entry k has the subject and grants the call or return by its grant at a place.
+fn code_granted(t: &[u16], k: usize, grant: usize, event: Event) -> bool
+    requires { ⌜ (k ≤ wordValues) × (grant ≤ returnsAt) × (entryAt (k + 1) ≤ length (now t)) ⌝ }
+    requires { ⌜ (event .target < mostDomains) × (event .target < subjectDomainCount (now t)) ⌝ }
+    ensures { λ r. ⌜ r ≡ (hasSubject (now (t .entry)) k event
+        && grants (grantIn (now (t .entry)) (entryAt k + grant) (subjectDomainCount (now (t .entry)))) (event .target)) ⌝ }
+{
+    if !has_subject(t, k, event) {
+        return false;
+    }
+    grant_holds(t, layout::entry_at(k) + grant, event.target)
+}
+
+// The lowest entry from one on that matches and grants the call or return, or how many there are where none does.
+fn first_granting_code(
+    t: &[u16],
+    functions: &[u16],
+    from: usize,
+    event: Event,
+    stack: &[u16],
+) -> usize
+    requires { ⌜ now functions ≡ functionDomainsIn (now t) ⌝ }
+    requires { ⌜ Placed (now t) (now stack) event ⌝ }
+    requires { ⌜ isCode (event .access) ≡ true ⌝ }
+    requires { ⌜ Whole (now t) event ⌝ }
+    ensures { λ r. ⌜ ((allocation : Moment) → GrantedFrom (now (t .entry)) (now (stack .entry)) event allocation from r) ⌝ }
+{
+    let entries = table::count(t, layout::ENTRY_COUNT_AT);
+    let access = event.access;
+    let grant_at = code_grant_at(access);
+    let mut k = from;
+    while k < entries {
+        if code_granted(t, k, grant_at, event) {
+            if moment_fits(t, functions, k, event, stack) {
+                return k;
+            }
+        }
+        k += 1;
+    }
+    entries
+}
+
+// One of n descriptors from the first on, which the table has, grants the access.
+fn some_descriptor_grants(
+    t: &[u16],
+    first: usize,
+    n: usize,
+    event: Event,
+    allocation: &[u16],
+) -> bool
+    requires { ⌜ (descriptorAt (first + n) ≤ reach) × (descriptorAt (first + n) ≤ length (now t)) ⌝ }
+    requires { ⌜ (event .target < mostDomains) × (event .target < objectDomainCount (now t)) ⌝ }
+    ensures { λ r. ⌜ r ≡ someDescriptorGrants (policyIn (now (t .entry))) (map (descriptorIn (now (t .entry))) (countUp first n))
+        (event .target) (binding event) (allocationOf (now (allocation .entry)) event) ⌝ }
+{
+    let mut i: usize = 0;
+    while i < n {
+        let at = layout::descriptor_at(first + i);
+        if grant_holds(t, at + layout::GRANT_AT, event.target) {
+            if context_fits_object(t, at, again(event), allocation) {
+                return true;
+            }
+        }
+        i += 1;
+    }
+    false
+}
+
+// The same event as a value of its own: only so the compiler keeps the event in registers until then.
+fn again(event: Event) -> Event
+    ensures { λ r. ⌜ r ≡ event ⌝ }
+{
+    let access = event.access;
+    let ids = event.ids;
+    let allocated = event.allocated;
+    Event {
+        access,
+        subject: event.subject,
+        target: event.target,
+        ids,
+        allocated,
+    }
+}
+
+// Entry k, whose descriptors begin at the first, has the subject and grants the read or write.
+fn data_granted(
+    t: &[u16],
+    k: usize,
+    first: usize,
+    reads: usize,
+    writes: usize,
+    event: Event,
+    allocation: &[u16],
+) -> bool
+    requires { ⌜ (isCode (event .access) ≡ false) × (event .target ≡ targetDomain (policyIn (now t)) (event .access)) ⌝ }
+    requires { ⌜ (k ≤ wordValues) × (first ≡ firstDescriptor (now t) k) × (first ≤ 2 * wordValues * k) ⌝ }
+    requires { ⌜ (reads ≡ readCount (now t) k) × (writes ≡ writeCount (now t) k) × (reads + writes ≤ 2 * wordValues) ⌝ }
+    requires { ⌜ (entryAt (k + 1) ≤ length (now t)) × (event .target < mostDomains) × (event .target < objectDomainCount (now t)) ⌝ }
+    ensures { λ r. ⌜ r ≡ (hasSubject (now (t .entry)) k event
+        && entryGrants (policyIn (now (t .entry))) (entryIn (now (t .entry)) k) (event .access) (binding event) (allocationOf (now (allocation .entry)) event)) ⌝ }
+{
+    if !has_subject(t, k, event) {
+        return false;
+    }
+    let access = event.access;
+    let write = is_write(access);
+    let start = first + skipped(write, reads);
+    let n = asked(write, reads, writes);
+    if t.len() < layout::descriptor_at(start + n) {
+        return judge_match::some_descriptor_grants(t, start, n, again(event), allocation);
+    }
+    some_descriptor_grants(t, start, n, event, allocation)
+}
+
+// The same as of a call for a read or a write.
+fn first_granting_data(
+    t: &[u16],
+    functions: &[u16],
+    from: usize,
+    event: Event,
+    stack: &[u16],
+    allocation: &[u16],
+) -> usize
+    requires { ⌜ now functions ≡ functionDomainsIn (now t) ⌝ }
+    requires { ⌜ Placed (now t) (now stack) event ⌝ }
+    requires { ⌜ isCode (event .access) ≡ false ⌝ }
+    requires { ⌜ from ≤ wordValues ⌝ }
+    requires { ⌜ Whole (now t) event ⌝ }
+    ensures { λ r. ⌜ GrantedFrom (now (t .entry)) (now (stack .entry)) event (allocationOf (now (allocation .entry)) event) from r ⌝ }
+{
+    let entries = table::count(t, layout::ENTRY_COUNT_AT);
+    let mut first = table::first_descriptor(t, from);
+    let mut k = from;
+    while k < entries {
+        let at = layout::entry_at(k);
+        let reads = word(t, at + layout::READS_AT) as usize;
+        let writes = word(t, at + layout::WRITES_AT) as usize;
+        if data_granted(t, k, first, reads, writes, event, allocation) {
+            if moment_fits(t, functions, k, event, stack) {
+                return k;
+            }
+        }
+        first += reads + writes;
+        k += 1;
+    }
+    entries
+}
+
+fn first_granting(
+    t: &[u16],
+    functions: &[u16],
+    from: usize,
+    event: Event,
+    stack: &[u16],
+    allocation: &[u16],
+) -> usize
+    requires { ⌜ now functions ≡ functionDomainsIn (now t) ⌝ }
+    requires { ⌜ Placed (now t) (now stack) event ⌝ }
+    requires { ⌜ from ≤ wordValues ⌝ }
+    requires { ⌜ Whole (now t) event ⌝ }
+    ensures { λ r. ⌜ GrantedFrom (now (t .entry)) (now (stack .entry)) event (allocationOf (now (allocation .entry)) event) from r ⌝ }
+{
+    let access = event.access;
+    if is_code(access) {
+        return first_granting_code(t, functions, from, event, stack);
+    }
+    first_granting_data(t, functions, from, event, stack, allocation)
+}
+
+// How many domains an access can be to.
+fn domains(t: &[u16], access: Access) -> usize
+    ensures { λ r. ⌜ r ≡ domainCount (now (t .entry)) access ⌝ }
+{
+    if is_code(access) {
+        return table::count(t, layout::SUBJECT_DOMAIN_COUNT_AT);
+    }
+    table::count(t, layout::OBJECT_DOMAIN_COUNT_AT)
+}
+
+// The table has all words of its entries, and the target's domain is one that a grant has a bit for.
+fn is_whole(t: &[u16], event: Event) -> bool
+    ensures { λ r. ⌜ (r ≡ true → Whole (now (t .entry)) event) ⌝ }
+{
+    if limit::DOMAINS <= event.target {
+        return false;
+    }
+    let access = event.access;
+    if domains(t, access) <= event.target {
+        return false;
+    }
+    layout::entry_at(table::count(t, layout::ENTRY_COUNT_AT)) <= t.len()
+}
+
+fn by_whole_entries(t: &[u16], event: Event, stack: &[u16], allocation: &[u16]) -> Verdict
+    requires { ⌜ Placed (now t) (now stack) event ⌝ }
+    requires { ⌜ Whole (now t) event ⌝ }
+    ensures { λ r. ⌜ r ≡ byAllEntries (now (t .entry)) (now (stack .entry)) event (allocationOf (now (allocation .entry)) event) ⌝ }
+{
+    let entries = table::count(t, layout::ENTRY_COUNT_AT);
+    let functions = table::functions(t);
+    let first = first_match(t, functions, event, stack);
+    if first == entries {
+        return Verdict::Violation {
+            number: violation::NO_ENTRY_MATCHES,
+        };
+    }
+    let entry = first_granting(t, functions, first, event, stack, allocation);
+    if entry == entries {
+        return Verdict::Violation {
+            number: violation::NONE_GRANTS,
+        };
+    }
+    Verdict::Granted {
+        entry: entry as u16,
+    }
+}
+
+// The verdict of the entries of any table.
+pub fn by_entries(t: &[u16], event: Event, stack: &[u16], allocation: &[u16]) -> Verdict
+    requires { ⌜ Placed (now t) (now stack) event ⌝ }
+    ensures { λ r. ⌜ r ≡ byAllEntries (now (t .entry)) (now (stack .entry)) event (allocationOf (now (allocation .entry)) event) ⌝ }
+{
+    if is_whole(t, event) {
+        return by_whole_entries(t, event, stack, allocation);
+    }
+    judge_entries::by_entries(t, again(event), stack, allocation)
+}
