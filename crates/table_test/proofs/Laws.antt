@@ -1,10 +1,13 @@
 -- What the functions of this crate need, as plain laws: the facts that a place in the code has, and what is to be shown there.
-use mathlib.Core.Path.{_≡_, sym}
-use mathlib.Core.Bool.{Bool, true, false, not, _&&_, and-assoc, and-false}
-use mathlib.Core.List.{List}
+use mathlib.Core.Path.{_≡_, refl, sym, _∙_}
+use mathlib.Core.Bool.{Bool, true, false, not, _&&_, and-assoc, and-false, false≢true}
+use mathlib.Core.List.{List, [], _++_, append-nil}
 use Prim.Native.Nat.{ℕ, _+_, _<_, _≤_}
 use lib.Dec.{eqb, leb}
-use lib.ListN.{length, take, drop}
+use lib.ListN.{length, take, drop, length-take, take-append-drop}
+use lib.Seq.{take-take}
+use native.Mathlib.Omega.{arith}
+use Rattle.laws_table.proofs.Inverse.{rest-unread}
 use borrow.Author.Tests.{eq-eqb, ne-eqb, lt-ltb, le-ltb, le-leb, lt-leb, leb-true}
 use Rattle.paper.specs.Common.{upTo, same}
 use Rattle.paper.specs.Limits.{mostDomains, mostMembers, mostEntries, mostDescriptors, tableWords}
@@ -198,3 +201,29 @@ module _ (ws : List ℕ) where
       (w : ℕ) (a b r : Bool) → tableWords ≤ length ws → w ≡ word ws markAt → w ≡ mark → a ≡ countsFit ws → not a ≡ false → b ≡ blocksFit ws → not b ≡ false
       → r ≡ restFits ws → r ≡ wellFormed ws
   rest-decides w a b r l e m p p′ q q′ s = rw (whole ws, le-leb _ _ l, is-equal _ mark w e m, tested-true _ a p p′, tested-true _ b q q′) s
+
+pub first-words-long : (ws : List ℕ) → tableWords ≤ length ws → length (take tableWords ws) ≡ tableWords
+first-words-long ws l = omega (arith, length-take tableWords ws)
+
+pub first-words-enough : (ws : List ℕ) → tableWords ≤ length ws → tableWords ≤ length (take tableWords ws)
+first-words-enough ws l = omega (arith, first-words-long ws l)
+
+-- the words past those of a table tell nothing
+first-words-tell : (ws : List ℕ) → tableWords ≤ length ws → wellFormed (take tableWords ws) ≡ wellFormed ws
+first-words-tell ws l = go (wellFormed (take tableWords ws)) refl (wellFormed ws) refl
+  where
+    more : wellFormed (take tableWords ws) ≡ true → wellFormed ws ≡ true
+    more h =
+        let all : take tableWords (take tableWords ws) ++ drop tableWords ws ≡ ws = rw (take-take tableWords tableWords ws (omega arith)) (take-append-drop tableWords ws) in
+        rw all at (rest-unread (take tableWords ws) h (drop tableWords ws) .0)
+
+    fewer : wellFormed ws ≡ true → wellFormed (take tableWords ws) ≡ true
+    fewer h = rw (append-nil (take tableWords ws)) at (rest-unread ws h [] .0)
+
+    go : (a : Bool) → wellFormed (take tableWords ws) ≡ a → (b : Bool) → wellFormed ws ≡ b → wellFormed (take tableWords ws) ≡ wellFormed ws
+    go true e b f = e ∙ sym (more e)
+    go false e true f = absurd (false≢true (sym e ∙ fewer f))
+    go false e false f = e ∙ sym f
+
+pub first-words-decide : (ws : List ℕ) (r : Bool) → tableWords ≤ length ws → r ≡ wellFormed (take tableWords ws) → r ≡ wellFormed ws
+first-words-decide ws r l e = e ∙ first-words-tell ws l

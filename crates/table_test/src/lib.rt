@@ -17,7 +17,7 @@ ghost use mathlib.Core.Path.{_≡_};
 ghost use Prim.Native.Nat.{_+_, _<_, _≤_};
 ghost use lib.ListN.{length};
 ghost use Rattle.paper.specs.Common.{upTo};
-ghost use Rattle.paper.specs.Limits.{mostEntries, mostDescriptors};
+ghost use Rattle.paper.specs.Limits.{mostEntries, mostDescriptors, tableWords};
 ghost use Rattle.paper.specs.Table.{descriptorAt, entryCount};
 ghost use Rattle.paper.specs.Table.{countsFit};
 ghost use Rattle.paper.specs.Table.{entriesFit};
@@ -275,13 +275,11 @@ fn rest_fits(t: &[u16], entries: usize) -> bool
     variables_bound(t, entries)
 }
 
-// The table is well formed.
-pub fn well_formed(t: &[u16]) -> bool
+// A table that is long enough is well formed.
+fn words_fit(t: &[u16]) -> bool
+    requires { ⌜ tableWords ≤ length (now t) ⌝ }
     ensures { λ r. ⌜ r ≡ wellFormed (now (t .entry)) ⌝ }
 {
-    if t.len() < limit::TABLE_WORDS {
-        return false;
-    }
     if word(t, layout::MARK_AT) != layout::MARK {
         return false;
     }
@@ -292,4 +290,14 @@ pub fn well_formed(t: &[u16]) -> bool
         return false;
     }
     rest_fits(t, count(t, layout::ENTRY_COUNT_AT))
+}
+
+// The table is well formed. Words past its end are cut off: the compiler then knows how many there are, and tests no place against that.
+pub fn well_formed(t: &[u16]) -> bool
+    ensures { λ r. ⌜ r ≡ wellFormed (now (t .entry)) ⌝ }
+{
+    if t.len() < limit::TABLE_WORDS {
+        return false;
+    }
+    words_fit(&t[..limit::TABLE_WORDS])
 }

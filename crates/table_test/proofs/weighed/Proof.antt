@@ -32,12 +32,17 @@ add-sum : tie.Need-add-sum Inv-loop μ-loop
 add-sum c = search needs
 
 mul-sum-2 : tie.Need-mul-sum-2 Inv-loop μ-loop
-mul-sum-2 c = omega (arith, weight-fits (c .before .before .before .args .words .now) (c .before .before .loop .i) (c .before .loop-test .taken) (c .before .before .before .pre) (c .shared-slice-known .given (c .before .before .loop .i) .fits))
+mul-sum-2 c =
+    let start = c .before .before .before in
+    let i = c .before .before .loop .i in
+    omega (arith, weight-fits (start .args .words .now) i (c .before .loop-test .taken) (start .pre) (c .shared-slice-known .given i .fits))
 
 add-sum-2 : tie.Need-add-sum-2 Inv-loop μ-loop
 add-sum-2 c =
-    omega
-    (arith, c .before .before .loop .inv .within, c .before .before .loop .inv .bounded, c .before .before .before .pre, weight-fits (c .before .before .before .args .words .now) (c .before .before .loop .i) (c .before .loop-test .taken) (c .before .before .before .pre) (c .shared-slice-known .given (c .before .before .loop .i) .fits))
+    let start = c .before .before .before in
+    let loop = c .before .before .loop in
+    let fits = weight-fits (start .args .words .now) (loop .i) (c .before .loop-test .taken) (start .pre) (c .shared-slice-known .given (loop .i) .fits) in
+    omega (arith, loop .inv .within, loop .inv .bounded, start .pre, fits)
 
 add-i : tie.Need-add-i Inv-loop μ-loop
 add-i c = search needs

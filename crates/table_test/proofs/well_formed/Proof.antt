@@ -1,5 +1,5 @@
--- Each test that fails decides, and the rest once none did.
-use Rattle.table_test.proofs.Laws.{table-short, mark-missing, counts-no, blocks-no, entries-few, rest-decides}
+-- Too short, or what the words that it needs say.
+use Rattle.table_test.proofs.Laws.{table-short, first-words-long, first-words-enough, first-words-decide}
 use borrow.Author.Needs.{needs}
 use Rattle.table_test.proofs.well_formed.Statement.{statement}
 use Rattle.table_test.proofs.well_formed.Tie as tie
@@ -7,44 +7,15 @@ use Rattle.table_test.proofs.well_formed.Tie as tie
 returns : tie.Need-returns
 returns c = search (needs, table-short)
 
-word-requires : tie.Need-word-requires
-word-requires c κs = search needs
+slice-aggregate-words-fit : tie.Need-slice-aggregate-words-fit
+slice-aggregate-words-fit c = search (needs, first-words-long)
+
+words-fit-requires : tie.Need-words-fit-requires
+words-fit-requires c κs = search (needs, first-words-enough)
 
 returns-2 : tie.Need-returns-2
-returns-2 c = search (needs, mark-missing)
-
-counts-fit-requires : tie.Need-counts-fit-requires
-counts-fit-requires c κs = search needs
-
-returns-3 : tie.Need-returns-3
-returns-3 c = search (needs, counts-no)
-
-blocks-fit-requires : tie.Need-blocks-fit-requires
-blocks-fit-requires c κs = search needs
-
-returns-4 : tie.Need-returns-4
-returns-4 c = search (needs, blocks-no)
-
-count-requires : tie.Need-count-requires
-count-requires c κs = search needs
-
-rest-fits-requires : tie.Need-rest-fits-requires
-rest-fits-requires c κs = search (needs, entries-few)
-
-returns-5 : tie.Need-returns-5
-returns-5 c = search (needs, rest-decides)
+returns-2 c = search (needs, first-words-decide)
 
 pub well-formed-spec : {M : Type 1} → statement M
 well-formed-spec =
-    tie.close
-    (tie.spec
-    returns
-    word-requires
-    returns-2
-    counts-fit-requires
-    returns-3
-    blocks-fit-requires
-    returns-4
-    count-requires
-    rest-fits-requires
-    returns-5)
+    tie.close (tie.spec returns slice-aggregate-words-fit words-fit-requires returns-2)
