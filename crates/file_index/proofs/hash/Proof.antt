@@ -35,8 +35,8 @@ cast-h c = omega (arith, c .shared-slice-known2 .given (c .before .before .loop 
 
 add-h : tie.Need-add-h Inv-loop μ-loop
 add-h c =
-    omega
-    (arith, product-below (c .before .before .loop .h) (c .before .before .before .before .before .args .m) (c .before .before .loop .inv .1), c .shared-slice-known2 .given (c .before .before .loop .i))
+    let loop = c .before .before .loop in
+    omega (arith, product-below (loop .h) (c .before .before .before .before .before .args .m) (loop .inv .1), c .shared-slice-known2 .given (loop .i))
 
 add-i : tie.Need-add-i Inv-loop μ-loop
 add-i c = search needs

@@ -26,10 +26,16 @@ cast-result-2 : tie.Need-cast-result-2
 cast-result-2 c = omega (arith, c .shared-slice-known2 .given (c .before .before .args .i + 1))
 
 add-result-2 : tie.Need-add-result-2
-add-result-2 c = omega (arith, byte-product _ (c .before .before .args .step) (c .before .shared-slice-known .given (c .before .before .args .i)) (c .before .before .pre .1), c .shared-slice-known2 .given (c .before .before .args .i + 1))
+add-result-2 c =
+    let args = c .before .before .args in
+    omega (arith, byte-product _ (args .step) (c .before .shared-slice-known .given (args .i)) (c .before .before .pre .1), c .shared-slice-known2 .given (args .i + 1))
 
 returns : tie.Need-returns
-returns c = (refl, omega (arith, byte-product _ (c .before .before .args .step) (c .before .shared-slice-known .given (c .before .before .args .i)) (c .before .before .pre .1), c .shared-slice-known2 .given (c .before .before .args .i + 1)))
+returns c =
+    let args = c .before .before .args in (
+      refl,
+      omega (arith, byte-product _ (args .step) (c .before .shared-slice-known .given (args .i)) (c .before .before .pre .1), c .shared-slice-known2 .given (args .i + 1)),
+    )
 
 pub two-at-spec : {M : Type 1} → statement M
 two-at-spec =
