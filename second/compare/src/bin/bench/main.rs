@@ -24,13 +24,17 @@ use gauge::Gauge;
 use second::{encode, quick_judge, Policy, Verdict, WITNESS_WORDS};
 use std::hint::black_box;
 use std::process::ExitCode;
-use timing::{exchange, row, Bench, Calls, LEAST_RUNS};
+use timing::{exchange, row, Bench, Calls, Run, LEAST_RUNS};
 
 const USAGE: &str = "usage: bench [--events N] [--runs N] [--seed N] [--rows WORD]
              [--bridge COMMAND] [--counter FILE]";
 
 /// One event in so many is judged with a test of the table, which takes long.
 const TESTED_SHARE: usize = 100;
+
+/// Whether the proved library is linked into this process, where a judge's rows
+/// are then timed.
+const ONE_PROCESS: bool = cfg!(feature = "one-process");
 
 /// The slot of the table that events are judged under.
 const TABLE: u32 = 0;
@@ -177,6 +181,14 @@ fn say_how(bench: &Bench) {
     println!("machine: {}", std::env::consts::ARCH);
     println!("the plain program runs {plain}{checks}");
     println!("the proved program runs {proved}");
+    println!(
+        "both judges run in {}",
+        if ONE_PROCESS {
+            "one process"
+        } else {
+            "processes of their own"
+        }
+    );
     let most = bench.most_runs;
     match bench.gauge.counts() {
         true => println!("x86-64 instructions for one call; these are counts and no times"),
@@ -190,9 +202,8 @@ fn table_test(bench: &mut Bench, words: &[u16], begin: &str) -> Result<(), Strin
         function: Function::WellFormed,
         all: &[Call::new(Function::WellFormed, &[TABLE], &[])],
     };
-    row(bench, &calls, || {
-        second::well_formed(black_box(words)).into()
-    })
+    let plain = || second::well_formed(black_box(words)).into();
+    row(bench, &calls, plain, None)
 }
 
 /// The overlap report of a table without a clash.
@@ -207,10 +218,11 @@ fn report(bench: &mut Bench, has_domains: bool, begin: &str) -> Result<(), Strin
         function: Function::Overlap,
         all: &[Call::new(Function::Overlap, &[1, 2], &[])],
     };
-    row(bench, &calls, || {
+    let plain = || {
         let report = second::overlap(black_box(&words), &mut [0; WITNESS_WORDS]);
         report.answer().packed()
-    })
+    };
+    row(bench, &calls, plain, None)
 }
 
 /// Lends these events and judges them under a table that is known to be well formed.
@@ -228,7 +240,34 @@ fn judging(
         function: Function::JudgeKnown,
         all: &calls(Function::JudgeKnown, events),
     };
-    row(bench, &calls, || sum(events, known))
+    let mut here = judged_here(words, events);
+    let here = here.as_mut().map(|run| run as Run<'_>);
+    row(bench, &calls, || sum(events, known), here)
+}
+
+/// Judges these events by the proved judge in this process, over the same
+/// memory as the plain one.
+#[cfg(feature = "one-process")]
+fn judged_here<'e>(
+    words: &'e [u16],
+    events: &'e [OwnEvent],
+) -> Option<impl FnMut() -> u64 + use<'e>> {
+    let one = |e: &OwnEvent| {
+        let event = black_box(e);
+        native::judge_known(
+            black_box(words),
+            event.operation,
+            event.target,
+            &event.lent(),
+        )
+    };
+    Some(move || events.iter().map(one).sum())
+}
+
+/// The library is not linked into this process: the bridge judges.
+#[cfg(not(feature = "one-process"))]
+fn judged_here(_: &[u16], _: &[OwnEvent]) -> Option<fn() -> u64> {
+    None
 }
 
 /// The first of these events once more, with a test of the table at each.
@@ -245,7 +284,7 @@ fn testing(
         function: Function::Judge,
         all: &calls(Function::Judge, events),
     };
-    row(bench, &calls, || sum(events, tested))
+    row(bench, &calls, || sum(events, tested), None)
 }
 
 /// The sum of all answers.

@@ -85,26 +85,48 @@ fn print_pair(name: &str, one: (&str, f64), other: (&str, Option<f64>), bench: &
     println!("{name:<34} {one} {}   {} {told}", show(time), other.0);
 }
 
-/// Times these calls; `plain` makes all of them in plain Rust and gives the sum
-/// of the answers. Other answers of the proved function are an error.
+/// Makes all calls once and gives the sum of the answers.
+pub type Run<'r> = &'r mut dyn FnMut() -> u64;
+
+/// Times these calls, plain and in the bridge. Other answers of the proved
+/// function are an error.
 pub fn figure(
     bench: &mut Bench,
     calls: &Calls<'_>,
     mut plain: impl FnMut() -> u64,
 ) -> Result<Figure, String> {
-    let (once, sum) = timed(&bench.gauge, 1, &mut plain)?;
+    figure_of(bench, calls, &mut plain, None)
+}
+
+/// The same, with the proved calls made in this process where they can be.
+fn figure_of(
+    bench: &mut Bench,
+    calls: &Calls<'_>,
+    plain: Run<'_>,
+    mut here: Option<Run<'_>>,
+) -> Result<Figure, String> {
+    let (once, sum) = timed(&bench.gauge, 1, plain)?;
     let (times, runs) = how_often(bench, once.max(1));
     let each = |time| (bench.gauge).each(time, times * calls.all.len() as u64);
     let mut least: Option<Figure> = None;
     for _ in 0..runs {
         let mut run = Figure {
             name: calls.name.clone(),
-            plain: each(timed(&bench.gauge, times, &mut plain)?.0)?,
+            plain: each(timed(&bench.gauge, times, plain)?.0)?,
             proved: None,
         };
         if bench.bridge.has(calls.function) {
-            let (time, proved) = proved(&mut bench.bridge, calls.all, times)?;
-            if proved != sum.wrapping_mul(times) {
+            let (time, proved, told) = match &mut here {
+                Some(here) => {
+                    let (time, proved) = timed(&bench.gauge, times, here)?;
+                    (time, proved, sum)
+                }
+                None => {
+                    let (time, proved) = bridged(&mut bench.bridge, calls.all, times)?;
+                    (time, proved, sum.wrapping_mul(times))
+                }
+            };
+            if proved != told {
                 return Err(format!("answers differ: {}", calls.name));
             }
             run.proved = Some(each(time)?);
@@ -129,15 +151,20 @@ fn how_often(bench: &Bench, once: u64) -> (u64, u64) {
 }
 
 /// Times these calls and prints the figure, if the row is asked for.
-pub fn row(bench: &mut Bench, calls: &Calls<'_>, plain: impl FnMut() -> u64) -> Result<(), String> {
+pub fn row(
+    bench: &mut Bench,
+    calls: &Calls<'_>,
+    mut plain: impl FnMut() -> u64,
+    here: Option<Run<'_>>,
+) -> Result<(), String> {
     if bench.wants(&calls.name) {
-        figure(bench, calls, plain)?.print(bench);
+        figure_of(bench, calls, &mut plain, here)?.print(bench);
     }
     Ok(())
 }
 
 /// Nanoseconds or instructions for so many times over, and the sum of one time.
-fn timed(gauge: &Gauge, times: u64, run: &mut impl FnMut() -> u64) -> Result<(u64, u64), String> {
+fn timed(gauge: &Gauge, times: u64, run: Run<'_>) -> Result<(u64, u64), String> {
     let mut sum = 0;
     let start = gauge.now()?;
     for _ in 0..times {
@@ -146,8 +173,8 @@ fn timed(gauge: &Gauge, times: u64, run: &mut impl FnMut() -> u64) -> Result<(u6
     Ok((gauge.now()?.wrapping_sub(start), sum))
 }
 
-/// The same inside the bridge; the sum is of all times.
-fn proved(bridge: &mut Bridge, calls: &[Call], times: u64) -> Result<(u64, u64), String> {
+/// The same inside the bridge, which tells the sum of all times.
+fn bridged(bridge: &mut Bridge, calls: &[Call], times: u64) -> Result<(u64, u64), String> {
     let mut requests = Requests::default();
     requests.time(times as u32, calls);
     let replies = exchange(bridge, requests)?;
