@@ -117,7 +117,7 @@ pub fn moment_fits(t: &[u16], functions: &[u16], k: usize, event: Event, stack: 
     if !sorts_fit(t, at, event.ids) {
         return false;
     }
-    judge_pattern::matches_stack(functions, table::pattern_at(t, at), stack)
+    judge_pattern::matches_stack(&functions[..], table::pattern_at(t, at), &stack[..])
 }
 
 // Only `all` everywhere fits a static object.
@@ -138,7 +138,11 @@ fn fits_allocated(t: &[u16], at: usize, event: Event, allocation: &[u16]) -> boo
     if !allocated_sorts_fit(t, at, event.ids, event.allocated) {
         return false;
     }
-    judge_pattern::matches_stack(table::functions(t), table::pattern_at(t, at), allocation)
+    judge_pattern::matches_stack(
+        table::functions(t),
+        table::pattern_at(t, at),
+        &allocation[..],
+    )
 }
 
 pub fn context_fits_object(t: &[u16], at: usize, event: Event, allocation: &[u16]) -> bool

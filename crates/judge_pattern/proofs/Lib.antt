@@ -1,4 +1,5 @@
 pub mod Lists
 mod Ends
 mod Laws
+mod FirstAndLast
 pub mod Relation

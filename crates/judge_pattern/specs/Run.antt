@@ -3,10 +3,12 @@ use Prim.Native.Nat.{ℕ, _<_, _≤_}
 use mathlib.Core.Path.{_≡_}
 use mathlib.Core.Bool.{Bool, true, false}
 use mathlib.Core.List.{List, _∷_, map}
-use lib.ListN.{length, take, drop}
+use lib.ListN.{length, take, drop, getD}
 use Rattle.paper.specs.Policy.{all}
 use Rattle.paper.specs.Table.{elementIn}
-use Rattle.paper.specs.Match.{matches}
+use Rattle.paper.specs.Match.{matches, top}
+use Rattle.laws.specs.Frames.{meetsFrame}
+use Rattle.judge_pattern.specs.declared.Words.{Words}
 use Rattle.judge_pattern.specs.declared.Top.{Top}
 use Rattle.judge_pattern.specs.declared.Top.the-variants.{Differs, Meets}
 use Rattle.judge_pattern.specs.declared.Run.{Run}
@@ -48,6 +50,14 @@ Says Match F p i s j = matchesFrom F p i s j ≡ true
 Says Fail F p i s j = matchesFrom F p i s j ≡ false
 Says Never F p i s j = matchesLater F p i s j ≡ false
 Says (All a b) F p i s j = FitsToAll F p i s j a b
+
+-- no other element besides `all` meets the frame than those of two words
+pub record Meeting (F : List ℕ) (x : ℕ) (words : Words) : Type 0 where
+  pub others : (one : ℕ) → (one ≡ 0 → ⊥) → (one ≡ words .function → ⊥) → (one ≡ words .domain → ⊥) → meetsFrame F (elementIn one) x ≡ false
+
+-- where the ends of a pattern may not meet those of a stack, it does not match
+pub record EndsMayMeet (p : List ℕ) (base running : Words) (r : Bool) : Type 0 where
+  pub refuses : (F s : List ℕ) → (length s ≡ 0 → ⊥) → Meeting F (getD s 0 0) base → Meeting F (top s) running → r ≡ false → false ≡ matches F (map elementIn p) s
 
 -- every element from place a on meets its frame from place b on: what stands before them decides
 pub record LeftBelow (F p s : List ℕ) (a b : ℕ) : Type 0 where

@@ -1,14 +1,16 @@
 // Patterns of elements (`paper::element`) against stacks of function numbers, base first; functions are given by their domains.
 use paper::element;
 ghost use mathlib.Core.Path.{_≡_};
+ghost use mathlib.Core.Bool.{_||_};
 ghost use mathlib.Core.List.{map};
 ghost use Prim.Native.Nat.{_<_, _≤_};
+ghost use lib.Dec.{eqb};
 ghost use lib.ListN.{length, getD};
 ghost use Rattle.paper.specs.Common.{allOf};
 ghost use Rattle.paper.specs.Match.{matches, isAll};
 ghost use Rattle.paper.specs.Table.{elementIn};
 ghost use Rattle.laws.specs.Frames.{meetsFrame};
-ghost use Rattle.judge_pattern.specs.Run.{Says, SaysOfTop, BehindAlls, NextMeeting, matchesLater};
+ghost use Rattle.judge_pattern.specs.Run.{Meeting, EndsMayMeet, Says, SaysOfTop, BehindAlls, NextMeeting, matchesLater};
 
 // An element that is not `all` meets a frame: it is that function, or a domain that the function lies in.
 fn meets(functions: &[u16], one: u16, frame: u16) -> bool
@@ -23,6 +25,57 @@ fn meets(functions: &[u16], one: u16, frame: u16) -> bool
         return false;
     }
     functions[f] == one - element::FIRST_DOMAIN
+}
+
+// The words of the elements besides `all` that can meet a frame.
+pub struct Words {
+    pub function: usize,
+    pub domain: usize,
+}
+
+fn domain_of(functions: &[u16], f: usize) -> u16
+    requires { ⌜ f < length (now functions) ⌝ }
+    ensures { λ r. ⌜ r ≡ getD (now (functions .entry)) f 0 ⌝ }
+{
+    functions[f]
+}
+
+// Those of a frame; one that is not listed lies in no domain.
+pub fn words_for(functions: &[u16], frame: u16) -> Words
+    ensures { λ r. ⌜ Meeting (now (functions .entry)) frame r ⌝ }
+{
+    let f = frame as usize;
+    if functions.len() <= f {
+        return Words {
+            function: f + 1,
+            domain: element::ALL as usize,
+        };
+    }
+    Words {
+        function: f + 1,
+        domain: domain_of(functions, f) as usize + element::FIRST_DOMAIN as usize,
+    }
+}
+
+fn may_meet(one: u16, words: Words) -> bool
+    ensures { λ r. ⌜ r ≡ (eqb one 0 || (eqb one (words .function) || eqb one (words .domain))) ⌝ }
+{
+    let w = one as usize;
+    (one == element::ALL) | ((w == words.function) | (w == words.domain))
+}
+
+// The first element may meet the base and the last one the top: two words that tell of most patterns that they do not match.
+pub fn ends_may_meet(pattern: &[u16], base: Words, top: Words) -> bool
+    ensures { λ r. ⌜ EndsMayMeet (now (pattern .entry)) base top r ⌝ }
+{
+    let n = pattern.len();
+    if n == 0 {
+        return true;
+    }
+    if !may_meet(pattern[n - 1], top) {
+        return false;
+    }
+    may_meet(pattern[0], base)
 }
 
 // What comes of holding the elements behind the last `all` against the top frames.
@@ -148,7 +201,13 @@ fn walk(functions: &[u16], pattern: &[u16], i: usize, stack: &[u16], j: usize) -
         match up_to_all(functions, pattern, start, stack, k) {
             Run::Match => return true,
             Run::Never => return false,
-            Run::All { rest, frame } => return walk(functions, pattern, rest, stack, frame),
+            Run::All { rest, frame } => return walk(
+                &functions[..],
+                &pattern[..],
+                rest,
+                &stack[..],
+                frame,
+            ),
             Run::Fail => {
                 k = next_meeting(functions, pattern, start, stack, k + 1);
             }
@@ -165,7 +224,7 @@ fn matches_from_base(functions: &[u16], pattern: &[u16], stack: &[u16]) -> bool
         Run::Match => true,
         Run::Fail => false,
         Run::Never => false,
-        Run::All { rest, frame } => walk(functions, pattern, rest, stack, frame),
+        Run::All { rest, frame } => walk(&functions[..], &pattern[..], rest, &stack[..], frame),
     }
 }
 

@@ -1,8 +1,8 @@
 -- A grant's bit by the one word that has it; what a whole table has; where `judge_match` and `judge_entries` need more, it is there.
-use Prim.Native.Nat.{ℕ, _+_, _-_, _/_, _%_, _^_, _<_, _≤_}
+use Prim.Native.Nat.{ℕ, _+_, _-_, _/_, _%_, _<_, _≤_}
 use native.Mathlib.Omega.{arith}
 use mathlib.Core.Path.{_≡_, refl, sym, _∙_}
-use mathlib.Core.Bool.{Bool, true, false, cond, not, _&&_, false≢true}
+use mathlib.Core.Bool.{Bool, true, false, cond, not, _&&_, false≢true, and-false}
 use mathlib.Core.List.{List, [], map}
 use lib.Dec.{eqb}
 use lib.ListN.{length, take, drop, getD, length-drop}
@@ -13,15 +13,18 @@ use Rattle.paper.specs.Common.{countUp}
 use Rattle.paper.specs.Limits.{mostDomains}
 use Rattle.paper.specs.Policy.{Descriptor}
 use Rattle.paper.specs.Table.{setAt, everyWord, grantAt, entrySize, entryAt, descriptorAt, entryCount, word, isIn, grantIn, contextIn, descriptorIn, policyIn, subjectDomainCount, objectDomainCount}
-use Rattle.paper.specs.Table.{readCount, writeCount, firstDescriptor, entryIn}
-use Rattle.paper.specs.Match.{grants, contextFitsObject, descriptorGrants, someDescriptorGrants}
+use Rattle.paper.specs.Table.{readCount, writeCount, firstDescriptor, entryIn, uidAt, elementsAt, patternWordsIn, functionDomainsIn, sortIn, elementIn}
+use Rattle.paper.specs.Match.{top, matches, sortFits, entryMatches, grants, descriptorGrants, someDescriptorGrants}
 use Rattle.paper.specs.Verdict.{isCode, targetDomain, entryGrants}
 use Rattle.judge_match.specs.declared.Event.{Event}
-use Rattle.judge_match.specs.Moments.{binding, allocationOf, Placed, hasSubject}
-use Rattle.judge_entries.specs.Passes.{isWrite, byAllEntries}
-use Rattle.judge_entries.proofs.Passes.{grant-decides, descriptors-grant}
-use Rattle.judge_match.proofs.Laws.{every-granted, set-decides, target-not-granted, context-decides, someFrom, someOf, some-found, some-later}
-use Rattle.judge_whole.specs.Whole.{domainCount, Whole}
+use Rattle.laws.proofs.Chains.{tested-false, tested-true}
+use Rattle.judge_pattern.specs.declared.Words.{Words}
+use Rattle.judge_pattern.specs.Run.{Meeting, EndsMayMeet}
+use Rattle.judge_match.specs.Moments.{momentOf, binding, allocationOf, Placed, hasSubject}
+use Rattle.judge_entries.specs.Passes.{isWrite, firstOfAll, byAllEntries}
+use Rattle.judge_entries.proofs.Passes.{matchLeft, matches-later, grant-decides, descriptors-grant}
+use Rattle.judge_match.proofs.Laws.{other-uid, other-subject, other-sorts, every-granted, set-decides, target-not-granted, someFrom, someOf, some-start, some-none, some-later}
+use Rattle.judge_whole.specs.Whole.{domainCount, Whole, MayMatch, NoneGrants}
 
 -- what a descriptor is asked
 abbrev granting : List ℕ → List ℕ → Event → Descriptor → Bool
@@ -97,36 +100,93 @@ module _ (ws : List ℕ) (event : Event) where
 
 -- ---- descriptors, i passed of n
 
-module _ (ws al : List ℕ) (event : Event) (first n i at : ℕ) (b : Bool) (listed : event .target < objectDomainCount ws)
-    (left : someFrom (granting ws al event) (descriptorIn ws) first n i ≡ someOf (granting ws al event) (descriptorIn ws) first n)
-    (below : i < n) (stands : at ≡ descriptorAt (first + i))
-    (told : (domains : ℕ) → event .target < domains → b ≡ grants (grantIn ws (at + grantAt) domains) (event .target)) where
-  pub grant-fails : b ≡ false → someFrom (granting ws al event) (descriptorIn ws) first n (i + 1) ≡ someOf (granting ws al event) (descriptorIn ws) first n
-  grant-fails h =
-      some-later (granting ws al event) (descriptorIn ws) first n i left false below
+module _ (ws : List ℕ) (first n : ℕ) (event : Event) where
+  abbrev pub NoneUpTo : ℕ → Type 0
+  NoneUpTo i = (al : List ℕ) → someFrom (granting ws al event) (descriptorIn ws) first n i ≡ someOf (granting ws al event) (descriptorIn ws) first n
+
+  pub none-yet : NoneUpTo 0
+  none-yet al = some-start (granting ws al event) (descriptorIn ws) first n
+
+  pub one-not :
+      (i at : ℕ) (b : Bool) → event .target < objectDomainCount ws → NoneUpTo i → i < n → at ≡ descriptorAt (first + i)
+      → ((domains : ℕ) → event .target < domains → b ≡ grants (grantIn ws (at + grantAt) domains) (event .target)) → b ≡ false → NoneUpTo (i + 1)
+  one-not i at b listed left below stands told h al =
+      some-later (granting ws al event) (descriptorIn ws) first n i (left al) false below
       (target-not-granted ws al event (first + i) at (objectDomainCount ws) b stands refl (told (objectDomainCount ws) listed) (rw h)) refl
 
-  module _ (again : Event) (same : again ≡ event) (r : Bool)
-      (fits : r ≡ contextFitsObject (policyIn ws) (contextIn ws at) (binding again) (allocationOf al again)) (granted : b ≡ true) where
-    decided : r ≡ granting ws al event (descriptorIn ws (first + i))
-    decided =
-        context-decides ws al event (first + i) at (objectDomainCount ws) b stands refl (told (objectDomainCount ws) listed) r (rw granted) (rw same at fits)
+  pub none-at-all : (i : ℕ) → NoneUpTo i → n ≤ i → true ≡ true → NoneGrants ws first n event
+  unfolding someDescriptorGrants
+  none-at-all i left h e = record { refuses = λ al. some-none (granting ws al event) (descriptorIn ws) first n i (left al) h }
 
-    pub context-fails : r ≡ false → someFrom (granting ws al event) (descriptorIn ws) first n (i + 1) ≡ someOf (granting ws al event) (descriptorIn ws) first n
-    context-fails h = some-later (granting ws al event) (descriptorIn ws) first n i left r below decided h
+  pub perhaps-one : false ≡ true → NoneGrants ws first n event
+  perhaps-one h = absurd (false≢true h)
 
-    pub grant-and-context : r ≡ true → true ≡ someOf (granting ws al event) (descriptorIn ws) first n
-    grant-and-context h = some-found (granting ws al event) (descriptorIn ws) first n i left r below decided h
+module _ (ws al : List ℕ) (event : Event) (k : ℕ) (of : Bool) (told : of ≡ hasSubject ws k event) (first reads writes before these : ℕ) (w r : Bool) where
+  pub descriptors-elsewhere-grant :
+      not of ≡ false → isCode (event .access) ≡ false → event .target ≡ targetDomain (policyIn ws) (event .access)
+      → first ≡ firstDescriptor ws k → reads ≡ readCount ws k → writes ≡ writeCount ws k → w ≡ isWrite (event .access) → before ≡ cond w reads 0 → these ≡ cond w writes reads
+      → (again : Event) → again ≡ event
+      → r ≡ someDescriptorGrants (policyIn ws) (map (descriptorIn ws) (countUp (first + before) these)) (again .target) (binding again) (allocationOf al again)
+      → r ≡ (hasSubject ws k event && entryGrants (policyIn ws) (entryIn ws k) (event .access) (binding event) (allocationOf al event))
+  descriptors-elsewhere-grant h d t f p q g x y again same e =
+      descriptors-grant ws [] event al k of told first reads writes before these w r h d t f p q g x y (rw same at e)
 
-pub descriptors-elsewhere-grant :
-    (ws al : List ℕ) (event : Event) (k : ℕ) (of : Bool) → of ≡ hasSubject ws k event
-    → (first reads writes before these : ℕ) (w r : Bool) → not of ≡ false → isCode (event .access) ≡ false → event .target ≡ targetDomain (policyIn ws) (event .access)
-    → first ≡ firstDescriptor ws k → reads ≡ readCount ws k → writes ≡ writeCount ws k → w ≡ isWrite (event .access) → before ≡ cond w reads 0 → these ≡ cond w writes reads
-    → (again : Event) → again ≡ event
-    → r ≡ someDescriptorGrants (policyIn ws) (map (descriptorIn ws) (countUp (first + before) these)) (again .target) (binding again) (allocationOf al again)
-    → r ≡ (hasSubject ws k event && entryGrants (policyIn ws) (entryIn ws k) (event .access) (binding event) (allocationOf al event))
-descriptors-elsewhere-grant ws al event k of told first reads writes before these w r h d t f p q g x y again same e =
-    descriptors-grant ws [] event al k of told first reads writes before these w r h d t f p q g x y (rw same at e)
+  pub none-of-them-grants :
+      not of ≡ false → isCode (event .access) ≡ false → event .target ≡ targetDomain (policyIn ws) (event .access)
+      → first ≡ firstDescriptor ws k → reads ≡ readCount ws k → writes ≡ writeCount ws k → w ≡ isWrite (event .access) → before ≡ cond w reads 0 → these ≡ cond w writes reads
+      → (r ≡ true → NoneGrants ws (first + before) these event) → r ≡ true
+      → false ≡ (hasSubject ws k event && entryGrants (policyIn ws) (entryIn ws k) (event .access) (binding event) (allocationOf al event))
+  none-of-them-grants h d t f p q g x y none e =
+      descriptors-grant ws [] event al k of told first reads writes before these w false h d t f p q g x y (none e .refuses al)
+
+-- ---- an entry that cannot match
+
+pub pattern-there : (ws : List ℕ) (at n : ℕ) → n ≡ word ws at → take (at + elementsAt + n - (at + elementsAt)) (drop (at + elementsAt) ws) ≡ patternWordsIn ws at
+pattern-there ws at n read = let size : at + elementsAt + n - (at + elementsAt) ≡ word ws at = omega arith in rw size
+
+pub subject-of-none : (subject : Bool) → false ≡ true → subject ≡ true
+subject-of-none subject h = absurd (false≢true h)
+
+pub subject-known : (subject of r : Bool) → of ≡ subject → not of ≡ false → r ≡ true → subject ≡ true
+subject-known subject of r told h e = tested-true subject of told h
+
+module _ (ws : List ℕ) (k : ℕ) (event : Event) (base running : Words) where
+  pub another-subject-tells : (of : Bool) → of ≡ hasSubject ws k event → not of ≡ true → MayMatch ws k event base running false
+  another-subject-tells of told h = record { refuses = λ s placed b t e. other-subject ws s event placed k (tested-false (hasSubject ws k event) of told h) }
+
+  module _ (at : ℕ) (stands : at ≡ entryAt k) where
+    pub uid-tells : (u : ℕ) (a : Bool) → u ≡ word ws (at + uidAt) → a ≡ sortFits (sortIn u) (event .ids .uid) → not a ≡ true → MayMatch ws k event base running false
+    uid-tells u a uid told h =
+        record { refuses = λ s placed b t e. other-sorts ws s event placed k at stands false (other-uid ws at (event .ids) u a uid told h) refl }
+
+    pub ends-tell : (p : List ℕ) (r : Bool) → p ≡ patternWordsIn ws at → EndsMayMeet p base running r → MayMatch ws k event base running r
+    unfolding entryMatches entryIn contextIn policyIn
+    ends-tell p r reads ends =
+        record {
+          refuses = λ s placed b t e.
+              let fails : false ≡ matches (functionDomainsIn ws) (map elementIn p) s = ends .refuses (functionDomainsIn ws) s (placed .some) b t e in
+              rw (← stands, ← reads, ← fails) (simp (and-false));
+        }
+
+pub subject-told : (subject r : Bool) → (r ≡ true → subject ≡ true) → r ≡ true → subject ≡ true
+subject-told subject r told h = told h
+
+pub filtered :
+    (ws s F : List ℕ) (event : Event) (k n : ℕ) (base running : Words) (r : Bool) → n ≡ entryCount ws
+    → k + matchLeft ws (momentOf s (event .ids)) k ≡ firstOfAll ws (momentOf s (event .ids)) → k < n → Placed ws s event → F ≡ functionDomainsIn ws
+    → Meeting F (getD s 0 0) base → Meeting F (top s) running → MayMatch ws k event base running r → r ≡ false
+    → k + 1 + matchLeft ws (momentOf s (event .ids)) (k + 1) ≡ firstOfAll ws (momentOf s (event .ids))
+filtered ws s F event k n base running r counted so-far below placed same b t may h =
+    matches-later ws (momentOf s (event .ids)) k n counted so-far false below (may .refuses s placed (rw same at b) (rw same at t) h) refl
+
+-- another value of the same event matches alike
+pub matches-alike :
+    (ws s : List ℕ) (k : ℕ) (event again : Event) (r : Bool) → again ≡ event → r ≡ entryMatches (policyIn ws) (entryIn ws k) (momentOf s (again .ids))
+    → r ≡ entryMatches (policyIn ws) (entryIn ws k) (momentOf s (event .ids))
+matches-alike ws s k event again r same e = rw same at e
+
+pub subject-alike : (ws : List ℕ) (k : ℕ) (event again : Event) → again ≡ event → hasSubject ws k event ≡ true → hasSubject ws k again ≡ true
+subject-alike ws k event again same h = rw same h
 
 -- another value of the same event is judged alike
 pub judged-alike :

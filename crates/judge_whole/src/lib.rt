@@ -6,9 +6,8 @@ use judge_entries::is_code;
 use judge_entries::is_write;
 use judge_entries::skipped;
 use judge_match::Event;
-use judge_match::Ids;
-use judge_match::context_fits_object;
 use judge_match::sort_fits;
+use judge_pattern::Words;
 use paper::Access;
 use paper::Operation;
 use paper::Verdict;
@@ -22,14 +21,14 @@ ghost use Prim.Native.Nat.{ℕ, _+_, _*_, _<_, _≤_};
 ghost use lib.ListN.{length};
 ghost use Rattle.paper.specs.Common.{countUp};
 ghost use Rattle.paper.specs.Limits.{mostDomains};
-ghost use Rattle.paper.specs.Table.{word, namespaceAt, setSize, returnsAt, entryAt, descriptorAt, entryCount, subjectDomainCount, objectDomainCount};
+ghost use Rattle.paper.specs.Table.{word, subjectAt, patternWordsIn, setSize, returnsAt, entryAt, descriptorAt, entryCount, subjectDomainCount, objectDomainCount};
 ghost use Rattle.paper.specs.Table.{readCount, writeCount, functionDomainsIn, policyIn, entryIn, contextIn, grantIn, descriptorIn, firstDescriptor};
-ghost use Rattle.paper.specs.Match.{Moment, sortsFit, entryMatches, grants, someDescriptorGrants};
+ghost use Rattle.paper.specs.Match.{Moment, entryMatches, grants, someDescriptorGrants};
 ghost use Rattle.paper.specs.Verdict.{isCode, targetDomain, entryGrants};
 ghost use Rattle.table.specs.Reach.{reach, wordValues};
 ghost use Rattle.judge_match.specs.Moments.{momentOf, binding, allocationOf, Placed, hasSubject};
 ghost use Rattle.judge_entries.specs.Passes.{firstOfAll, byAllEntries, GrantedFrom};
-ghost use Rattle.judge_whole.specs.Whole.{domainCount, Whole};
+ghost use Rattle.judge_whole.specs.Whole.{domainCount, Whole, MayMatch, NoneGrants};
 
 // A word that the table has.
 fn word(t: &[u16], at: usize) -> u16
@@ -37,20 +36,6 @@ fn word(t: &[u16], at: usize) -> u16
     ensures { λ r. ⌜ r ≡ word (now (t .entry)) at ⌝ }
 {
     t[at]
-}
-
-// The sorts of the context at a place fit the numbers of a moment.
-fn sorts_fit(t: &[u16], at: usize, ids: Ids) -> bool
-    requires { ⌜ (at ≤ reach) × (at + namespaceAt < length (now t)) ⌝ }
-    ensures { λ r. ⌜ r ≡ sortsFit (contextIn (now (t .entry)) at) (momentOf [] ids) ⌝ }
-{
-    if !sort_fits(word(t, at + layout::UID_AT), ids.uid) {
-        return false;
-    }
-    if !sort_fits(word(t, at + layout::GID_AT), ids.gid) {
-        return false;
-    }
-    sort_fits(word(t, at + layout::NAMESPACE_AT), ids.namespace)
 }
 
 // Entry k has the event's subject.
@@ -63,17 +48,42 @@ fn has_subject(t: &[u16], k: usize, event: Event) -> bool
 
 // Entry k, which has the subject, matches.
 fn moment_fits(t: &[u16], functions: &[u16], k: usize, event: Event, stack: &[u16]) -> bool
-    requires { ⌜ (entryAt k ≤ reach) × (entryAt (k + 1) ≤ length (now t)) ⌝ }
+    requires { ⌜ entryAt k ≤ reach ⌝ }
     requires { ⌜ now functions ≡ functionDomainsIn (now t) ⌝ }
     requires { ⌜ Placed (now t) (now stack) event ⌝ }
     requires { ⌜ hasSubject (now t) k event ≡ true ⌝ }
     ensures { λ r. ⌜ r ≡ entryMatches (policyIn (now (t .entry))) (entryIn (now (t .entry)) k) (momentOf (now (stack .entry)) (event .ids)) ⌝ }
 {
-    let at = layout::entry_at(k);
-    if !sorts_fit(t, at, event.ids) {
+    judge_match::moment_fits(&t[..], &functions[..], k, again(event), &stack[..])
+}
+
+// The pattern of the context at a place.
+fn pattern_at(t: &[u16], at: usize) -> &[u16]
+    requires { ⌜ (at ≤ reach) × (at + subjectAt ≤ length (now t)) ⌝ }
+    ensures { λ r. ⌜ now r ≡ patternWordsIn (now (t .entry)) at ⌝ }
+{
+    let n = word(t, at) as usize;
+    if limit::ELEMENTS < n {
+        return table::pattern_at(t, at);
+    }
+    let from = at + layout::ELEMENTS_AT;
+    let to = from + n;
+    &t[from..to]
+}
+
+// Entry k has the subject, and neither its uid nor an end of its pattern tells that it does not match.
+fn may_match(t: &[u16], k: usize, event: Event, base: Words, top: Words) -> bool
+    requires { ⌜ (entryAt k ≤ reach) × (entryAt (k + 1) ≤ length (now t)) ⌝ }
+    ensures { λ r. ⌜ (r ≡ true → hasSubject (now (t .entry)) k event ≡ true) × MayMatch (now (t .entry)) k event base top r ⌝ }
+{
+    if !has_subject(t, k, event) {
         return false;
     }
-    judge_pattern::matches_stack(functions, table::pattern_at(t, at), stack)
+    let at = layout::entry_at(k);
+    if !sort_fits(word(t, at + layout::UID_AT), event.ids.uid) {
+        return false;
+    }
+    judge_pattern::ends_may_meet(pattern_at(t, at), base, top)
 }
 
 // The grant at a place holds domain d, which is one of those it is among.
@@ -96,9 +106,11 @@ fn first_match(t: &[u16], functions: &[u16], event: Event, stack: &[u16]) -> usi
     ensures { λ r. ⌜ (r ≡ firstOfAll (now (t .entry)) (momentOf (now (stack .entry)) (event .ids))) × (r ≤ entryCount (now (t .entry))) ⌝ }
 {
     let entries = table::count(t, layout::ENTRY_COUNT_AT);
+    let base = judge_pattern::words_for(functions, stack[0]);
+    let top = judge_pattern::words_for(functions, stack[stack.len() - 1]);
     let mut k: usize = 0;
     while k < entries {
-        if has_subject(t, k, event) {
+        if may_match(t, k, event, base, top) {
             if moment_fits(t, functions, k, event, stack) {
                 return k;
             }
@@ -150,30 +162,24 @@ fn first_granting_code(
     entries
 }
 
-// One of n descriptors from the first on, which the table has, grants the access.
-fn some_descriptor_grants(
-    t: &[u16],
-    first: usize,
-    n: usize,
-    event: Event,
-    allocation: &[u16],
-) -> bool
-    requires { ⌜ (descriptorAt (first + n) ≤ reach) × (descriptorAt (first + n) ≤ length (now t)) ⌝ }
+// The table has n descriptors from the first on, and none of them holds the target's domain.
+fn none_holds(t: &[u16], first: usize, n: usize, event: Event) -> bool
+    requires { ⌜ descriptorAt (first + n) ≤ reach ⌝ }
     requires { ⌜ (event .target < mostDomains) × (event .target < objectDomainCount (now t)) ⌝ }
-    ensures { λ r. ⌜ r ≡ someDescriptorGrants (policyIn (now (t .entry))) (map (descriptorIn (now (t .entry))) (countUp first n))
-        (event .target) (binding event) (allocationOf (now (allocation .entry)) event) ⌝ }
+    ensures { λ r. ⌜ (r ≡ true → NoneGrants (now (t .entry)) first n event) ⌝ }
 {
+    if t.len() < layout::descriptor_at(first + n) {
+        return false;
+    }
     let mut i: usize = 0;
     while i < n {
         let at = layout::descriptor_at(first + i);
         if grant_holds(t, at + layout::GRANT_AT, event.target) {
-            if context_fits_object(t, at, again(event), allocation) {
-                return true;
-            }
+            return false;
         }
         i += 1;
     }
-    false
+    true
 }
 
 // The same event as a value of its own: only so the compiler keeps the event in registers until then.
@@ -216,10 +222,10 @@ fn data_granted(
     let write = is_write(access);
     let start = first + skipped(write, reads);
     let n = asked(write, reads, writes);
-    if t.len() < layout::descriptor_at(start + n) {
-        return judge_match::some_descriptor_grants(t, start, n, again(event), allocation);
+    if none_holds(t, start, n, event) {
+        return false;
     }
-    some_descriptor_grants(t, start, n, event, allocation)
+    judge_match::some_descriptor_grants(&t[..], start, n, again(event), &allocation[..])
 }
 
 // The same as of a call for a read or a write.
@@ -333,5 +339,5 @@ pub fn by_entries(t: &[u16], event: Event, stack: &[u16], allocation: &[u16]) ->
     if is_whole(t, event) {
         return by_whole_entries(t, event, stack, allocation);
     }
-    judge_entries::by_entries(t, again(event), stack, allocation)
+    judge_entries::by_entries(&t[..], again(event), &stack[..], &allocation[..])
 }

@@ -82,9 +82,10 @@ walk-enum-known-rest t c = search needs
 walk-walk-requires : (t : ℕ) → walk-lts.Need-walk-requires (claims t) (walk-at t) walk.Post walk-Inv-loop walk-μ-loop
 walk-walk-requires t c κs =
     let inv = c .before .before .before .before .before .loop .inv in
+    let run = c .before .before .before .up-to-all in
     let behind = c .before .before .before .before .before .before .before .before .behind-alls .ensures .0 in
-    let further = behind .further in
-    (search (needs, walk-falls), search (needs, rest-in-pattern, rest-in-stack))
+    let start = c .before .before .before .before .before .before .before .before .before .before .before .before in
+    (walk-falls _ _ _ _ _ _ (inv .4) (run .result) (run .ensures) _ _ (c .before .rest .given .1) _ _ _ (behind .further) (inv .0) (start .pre .0), search (needs, rest-in-pattern, rest-in-stack))
 
 walk-returns-4 : (t : ℕ) → walk-lts.Need-returns-4 (claims t) (walk-at t) walk.Post walk-Inv-loop walk-μ-loop
 walk-returns-4 t c = search (needs, walk-all)
