@@ -126,7 +126,7 @@ pub fn asked(write: bool, reads: usize, writes: usize) -> usize
 }
 
 // Entry k, whose descriptors begin at the first, has the subject and grants the read or write.
-fn data_granted(
+pub fn data_granted(
     t: &[u16],
     k: usize,
     first: usize,

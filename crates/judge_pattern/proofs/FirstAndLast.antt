@@ -12,7 +12,7 @@ use Rattle.paper.specs.Table.{firstDomainWord, elementIn}
 use Rattle.paper.specs.Match.{top, firstMeets, matches}
 use Rattle.laws.specs.Frames.{meetsFrame}
 use Rattle.laws.proofs.Tests.{neither-left, neither-right, le-or-lt}
-use Rattle.laws.proofs.Elements.{at-single}
+use Rattle.laws.proofs.Elements.{empty-refuses, at-single}
 use Rattle.judge_pattern.specs.Run.{Meeting, EndsMayMeet}
 use Rattle.judge_pattern.specs.declared.Words.{Words}
 use Rattle.judge_pattern.proofs.Ends.{nothing-met, top-differs}
@@ -52,8 +52,14 @@ module _ (one : ℕ) (words : Words) (r : Bool) (told : r ≡ (eqb one 0 || (eqb
 -- ---- the ends of a pattern
 
 module _ (p : List ℕ) (base running : Words) where
-  pub no-ends : EndsMayMeet p base running true
-  no-ends = record { refuses = λ F s some b t h. absurd (false≢true (sym h)) }
+  empty-differs : (q F s : List ℕ) → length q ≡ 0 → (length s ≡ 0 → ⊥) → false ≡ matches F (map elementIn q) s
+  unfolding matches
+  empty-differs [] F [] h some = absurd (some refl)
+  empty-differs [] F (x ∷ s) h some = sym (empty-refuses F x s)
+  empty-differs (w ∷ q) F s h some = absurd (omega arith)
+
+  pub no-ends : length p ≡ 0 → EndsMayMeet p base running false
+  no-ends h = record { refuses = λ F s some b t e. empty-differs p F s h some }
 
   module _ (some-elements : length p ≡ 0 → ⊥) where
     pub last-differs :

@@ -70,7 +70,7 @@ pub fn ends_may_meet(pattern: &[u16], base: Words, top: Words) -> bool
 {
     let n = pattern.len();
     if n == 0 {
-        return true;
+        return false;
     }
     if !may_meet(pattern[n - 1], top) {
         return false;

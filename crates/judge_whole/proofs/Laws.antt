@@ -1,5 +1,5 @@
 -- A grant's bit by the one word that has it; what a whole table has; where `judge_match` and `judge_entries` need more, it is there.
-use Prim.Native.Nat.{ℕ, _+_, _-_, _/_, _%_, _<_, _≤_}
+use Prim.Native.Nat.{ℕ, _+_, _*_, _-_, _/_, _%_, _<_, _≤_}
 use native.Mathlib.Omega.{arith}
 use mathlib.Core.Path.{_≡_, refl, sym, _∙_}
 use mathlib.Core.Bool.{Bool, true, false, cond, not, _&&_, false≢true, and-false}
@@ -7,24 +7,28 @@ use mathlib.Core.List.{List, [], map}
 use lib.Dec.{eqb}
 use lib.ListN.{length, take, drop, getD, length-drop}
 use lib.Seq.{getD-take, getD-drop, take-all}
+use borrow.Author.Tests.{not-false}
 use Rattle.paper.specs.declared.Access.{Access}
 use Rattle.paper.specs.declared.Verdict.{Verdict}
 use Rattle.paper.specs.Common.{countUp}
 use Rattle.paper.specs.Limits.{mostDomains}
 use Rattle.paper.specs.Policy.{Descriptor}
 use Rattle.paper.specs.Table.{setAt, everyWord, grantAt, entrySize, entryAt, descriptorAt, entryCount, word, isIn, grantIn, contextIn, descriptorIn, policyIn, subjectDomainCount, objectDomainCount}
-use Rattle.paper.specs.Table.{readCount, writeCount, firstDescriptor, entryIn, uidAt, elementsAt, patternWordsIn, functionDomainsIn, sortIn, elementIn}
+use Rattle.paper.specs.Table.{readCount, writeCount, firstDescriptor, entryIn, readsAt, writesAt, uidAt, elementsAt, patternWordsIn, functionDomainsIn, sortIn, elementIn}
 use Rattle.paper.specs.Match.{top, matches, sortFits, entryMatches, grants, descriptorGrants, someDescriptorGrants}
 use Rattle.paper.specs.Verdict.{isCode, targetDomain, entryGrants}
 use Rattle.judge_match.specs.declared.Event.{Event}
+use Rattle.table.specs.Reach.{wordValues}
+use Rattle.table.proofs.Laws.{sum-again, both-counts}
 use Rattle.laws.proofs.Chains.{tested-false, tested-true}
 use Rattle.judge_pattern.specs.declared.Words.{Words}
 use Rattle.judge_pattern.specs.Run.{Meeting, EndsMayMeet}
 use Rattle.judge_match.specs.Moments.{momentOf, binding, allocationOf, Placed, hasSubject}
-use Rattle.judge_entries.specs.Passes.{isWrite, firstOfAll, byAllEntries}
-use Rattle.judge_entries.proofs.Passes.{matchLeft, matches-later, grant-decides, descriptors-grant}
+use Rattle.judge_entries.specs.Passes.{isWrite, firstOfAll, byAllEntries, byEntriesFrom}
+use Rattle.judge_entries.proofs.Passes.{matchLeft, matches-later, another-subject, grant-decides, descriptors-grant, data-not-granted}
 use Rattle.judge_match.proofs.Laws.{other-uid, other-subject, other-sorts, every-granted, set-decides, target-not-granted, someFrom, someOf, some-start, some-none, some-later}
-use Rattle.judge_whole.specs.Whole.{domainCount, Whole, MayMatch, NoneGrants}
+use Rattle.judge_whole.specs.Whole.{domainCount, Whole, MayMatch, NoneGrants, MayGrant, NextGranting}
+use Rattle.judge_whole.specs.declared.Place.{Place}
 
 -- what a descriptor is asked
 abbrev granting : List ℕ → List ℕ → Event → Descriptor → Bool
@@ -121,23 +125,50 @@ module _ (ws : List ℕ) (first n : ℕ) (event : Event) where
   pub perhaps-one : false ≡ true → NoneGrants ws first n event
   perhaps-one h = absurd (false≢true h)
 
-module _ (ws al : List ℕ) (event : Event) (k : ℕ) (of : Bool) (told : of ≡ hasSubject ws k event) (first reads writes before these : ℕ) (w r : Bool) where
-  pub descriptors-elsewhere-grant :
-      not of ≡ false → isCode (event .access) ≡ false → event .target ≡ targetDomain (policyIn ws) (event .access)
-      → first ≡ firstDescriptor ws k → reads ≡ readCount ws k → writes ≡ writeCount ws k → w ≡ isWrite (event .access) → before ≡ cond w reads 0 → these ≡ cond w writes reads
-      → (again : Event) → again ≡ event
-      → r ≡ someDescriptorGrants (policyIn ws) (map (descriptorIn ws) (countUp (first + before) these)) (again .target) (binding again) (allocationOf al again)
-      → r ≡ (hasSubject ws k event && entryGrants (policyIn ws) (entryIn ws k) (event .access) (binding event) (allocationOf al event))
-  descriptors-elsewhere-grant h d t f p q g x y again same e =
-      descriptors-grant ws [] event al k of told first reads writes before these w r h d t f p q g x y (rw same at e)
+-- ---- an entry that cannot grant
 
-  pub none-of-them-grants :
-      not of ≡ false → isCode (event .access) ≡ false → event .target ≡ targetDomain (policyIn ws) (event .access)
+module _ (ws : List ℕ) (event : Event) (k : ℕ) (of : Bool) (told : of ≡ hasSubject ws k event) where
+  pub subject-grants-not : not of ≡ true → MayGrant ws k event false
+  subject-grants-not h = record { refuses = λ al e. another-subject of _ (hasSubject ws k event) told h }
+
+  pub descriptors-tell :
+      (first reads writes before these : ℕ) (w none : Bool) → not of ≡ false → isCode (event .access) ≡ false → event .target ≡ targetDomain (policyIn ws) (event .access)
       → first ≡ firstDescriptor ws k → reads ≡ readCount ws k → writes ≡ writeCount ws k → w ≡ isWrite (event .access) → before ≡ cond w reads 0 → these ≡ cond w writes reads
-      → (r ≡ true → NoneGrants ws (first + before) these event) → r ≡ true
-      → false ≡ (hasSubject ws k event && entryGrants (policyIn ws) (entryIn ws k) (event .access) (binding event) (allocationOf al event))
-  none-of-them-grants h d t f p q g x y none e =
-      descriptors-grant ws [] event al k of told first reads writes before these w false h d t f p q g x y (none e .refuses al)
+      → (none ≡ true → NoneGrants ws (first + before) these event) → MayGrant ws k event (not none)
+  descriptors-tell first reads writes before these w none h d t f p q g x y told′ =
+      record {
+        refuses = λ al e. descriptors-grant ws [] event al k of told first reads writes before these w false h d t f p q g x y (told′ (not-false none e) .refuses al);
+      }
+
+module _ (ws : List ℕ) (event : Event) (from : ℕ) where
+  pub none-passed :
+      (before n : ℕ) → n ≡ entryCount ws → from ≤ n → before ≡ firstDescriptor ws from → before ≤ 2 * wordValues * from → NextGranting ws event from (record { entry = from; first = before })
+  none-passed before n counted few stands small = record { few = omega arith; further = omega arith; stands = stands; small = small; decides = λ s al placed. refl }
+
+  pub one-passed :
+      (k first at reads writes n : ℕ) (r : Bool) → n ≡ entryCount ws → NextGranting ws event from (record { entry = k; first = first }) → k < n → at ≡ entryAt k
+      → reads ≡ word ws (at + readsAt) → writes ≡ word ws (at + writesAt) → reads + writes ≤ 2 * wordValues → MayGrant ws k event r → r ≡ false
+      → NextGranting ws event from (record { entry = k + 1; first = first + (reads + writes) })
+  one-passed k first at reads writes n r counted so-far below stands p q few may h =
+      let l = so-far .further in
+      let m = so-far .small in
+      record {
+        few = omega arith;
+        further = omega arith;
+        stands = sum-again ws k first (reads + writes) (so-far .stands) (both-counts ws k at reads writes stands p q);
+        small = omega arith;
+        decides = λ s al placed. data-not-granted ws s event al from k n counted (so-far .decides s al placed) below placed false (may .refuses al h) refl;
+      }
+
+-- the next entry that may grant is one of those that are left, and those from it on decide
+module _ (ws : List ℕ) (event : Event) (i : ℕ) (next : Place) (found : NextGranting ws event i next) where
+  pub next-decides :
+      (s al : List ℕ) (from : ℕ) → Placed ws s event → byEntriesFrom ws s event (allocationOf al event) i ≡ byEntriesFrom ws s event (allocationOf al event) from
+      → byEntriesFrom ws s event (allocationOf al event) (next .entry) ≡ byEntriesFrom ws s event (allocationOf al event) from
+  next-decides s al from placed same = found .decides s al placed ∙ same
+
+  pub next-below : (n : ℕ) → n ≡ entryCount ws → (next .entry ≡ n → ⊥) → next .entry < n
+  next-below n counted h = let l = found .few in omega arith
 
 -- ---- an entry that cannot match
 
@@ -179,19 +210,23 @@ pub filtered :
 filtered ws s F event k n base running r counted so-far below placed same b t may h =
     matches-later ws (momentOf s (event .ids)) k n counted so-far false below (may .refuses s placed (rw same at b) (rw same at t) h) refl
 
--- another value of the same event matches alike
-pub matches-alike :
-    (ws s : List ℕ) (k : ℕ) (event again : Event) (r : Bool) → again ≡ event → r ≡ entryMatches (policyIn ws) (entryIn ws k) (momentOf s (again .ids))
-    → r ≡ entryMatches (policyIn ws) (entryIn ws k) (momentOf s (event .ids))
-matches-alike ws s k event again r same e = rw same at e
-
-pub subject-alike : (ws : List ℕ) (k : ℕ) (event again : Event) → again ≡ event → hasSubject ws k event ≡ true → hasSubject ws k again ≡ true
-subject-alike ws k event again same h = rw same h
-
 -- another value of the same event is judged alike
 pub judged-alike :
     (ws s al : List ℕ) (event again : Event) (r : Verdict) → again ≡ event → r ≡ byAllEntries ws s again (allocationOf al again) → r ≡ byAllEntries ws s event (allocationOf al event)
 judged-alike ws s al event again r same e = rw same at e
+
+pub granted-alike :
+    (ws al : List ℕ) (k : ℕ) (event again : Event) (r : Bool) → again ≡ event
+    → r ≡ (hasSubject ws k again && entryGrants (policyIn ws) (entryIn ws k) (again .access) (binding again) (allocationOf al again))
+    → r ≡ (hasSubject ws k event && entryGrants (policyIn ws) (entryIn ws k) (event .access) (binding event) (allocationOf al event))
+granted-alike ws al k event again r same e = rw same at e
+
+pub code-alike : (event again : Event) → again ≡ event → isCode (event .access) ≡ false → isCode (again .access) ≡ false
+code-alike event again same h = rw same h
+
+pub target-alike :
+    (ws : List ℕ) (event again : Event) → again ≡ event → event .target ≡ targetDomain (policyIn ws) (event .access) → again .target ≡ targetDomain (policyIn ws) (again .access)
+target-alike ws event again same h = rw same h
 
 pub placed-alike : (ws s : List ℕ) (event again : Event) → again ≡ event → Placed ws s event → Placed ws s again
 placed-alike ws s event again same placed = rw same placed

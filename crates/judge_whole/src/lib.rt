@@ -6,6 +6,7 @@ use judge_entries::is_code;
 use judge_entries::is_write;
 use judge_entries::skipped;
 use judge_match::Event;
+use judge_match::Ids;
 use judge_match::sort_fits;
 use judge_pattern::Words;
 use paper::Access;
@@ -21,14 +22,14 @@ ghost use Prim.Native.Nat.{ℕ, _+_, _*_, _<_, _≤_};
 ghost use lib.ListN.{length};
 ghost use Rattle.paper.specs.Common.{countUp};
 ghost use Rattle.paper.specs.Limits.{mostDomains};
-ghost use Rattle.paper.specs.Table.{word, subjectAt, patternWordsIn, setSize, returnsAt, entryAt, descriptorAt, entryCount, subjectDomainCount, objectDomainCount};
+ghost use Rattle.paper.specs.Table.{word, namespaceAt, subjectAt, patternWordsIn, setSize, returnsAt, entryAt, descriptorAt, entryCount, subjectDomainCount, objectDomainCount};
 ghost use Rattle.paper.specs.Table.{readCount, writeCount, functionDomainsIn, policyIn, entryIn, contextIn, grantIn, descriptorIn, firstDescriptor};
-ghost use Rattle.paper.specs.Match.{Moment, entryMatches, grants, someDescriptorGrants};
+ghost use Rattle.paper.specs.Match.{Moment, sortsFit, entryMatches, grants, someDescriptorGrants};
 ghost use Rattle.paper.specs.Verdict.{isCode, targetDomain, entryGrants};
 ghost use Rattle.table.specs.Reach.{reach, wordValues};
 ghost use Rattle.judge_match.specs.Moments.{momentOf, binding, allocationOf, Placed, hasSubject};
 ghost use Rattle.judge_entries.specs.Passes.{firstOfAll, byAllEntries, GrantedFrom};
-ghost use Rattle.judge_whole.specs.Whole.{domainCount, Whole, MayMatch, NoneGrants};
+ghost use Rattle.judge_whole.specs.Whole.{domainCount, Whole, MayMatch, NoneGrants, MayGrant, NextGranting};
 
 // A word that the table has.
 fn word(t: &[u16], at: usize) -> u16
@@ -38,23 +39,26 @@ fn word(t: &[u16], at: usize) -> u16
     t[at]
 }
 
+// The sorts of the context at a place fit the numbers of a moment.
+fn sorts_fit(t: &[u16], at: usize, ids: Ids) -> bool
+    requires { ⌜ (at ≤ reach) × (at + namespaceAt < length (now t)) ⌝ }
+    ensures { λ r. ⌜ r ≡ sortsFit (contextIn (now (t .entry)) at) (momentOf [] ids) ⌝ }
+{
+    if !sort_fits(word(t, at + layout::UID_AT), ids.uid) {
+        return false;
+    }
+    if !sort_fits(word(t, at + layout::GID_AT), ids.gid) {
+        return false;
+    }
+    sort_fits(word(t, at + layout::NAMESPACE_AT), ids.namespace)
+}
+
 // Entry k has the event's subject.
 fn has_subject(t: &[u16], k: usize, event: Event) -> bool
     requires { ⌜ (entryAt k ≤ reach) × (entryAt (k + 1) ≤ length (now t)) ⌝ }
     ensures { λ r. ⌜ r ≡ hasSubject (now (t .entry)) k event ⌝ }
 {
     event.subject == word(t, layout::entry_at(k) + layout::SUBJECT_AT)
-}
-
-// Entry k, which has the subject, matches.
-fn moment_fits(t: &[u16], functions: &[u16], k: usize, event: Event, stack: &[u16]) -> bool
-    requires { ⌜ entryAt k ≤ reach ⌝ }
-    requires { ⌜ now functions ≡ functionDomainsIn (now t) ⌝ }
-    requires { ⌜ Placed (now t) (now stack) event ⌝ }
-    requires { ⌜ hasSubject (now t) k event ≡ true ⌝ }
-    ensures { λ r. ⌜ r ≡ entryMatches (policyIn (now (t .entry))) (entryIn (now (t .entry)) k) (momentOf (now (stack .entry)) (event .ids)) ⌝ }
-{
-    judge_match::moment_fits(&t[..], &functions[..], k, again(event), &stack[..])
 }
 
 // The pattern of the context at a place.
@@ -69,6 +73,21 @@ fn pattern_at(t: &[u16], at: usize) -> &[u16]
     let from = at + layout::ELEMENTS_AT;
     let to = from + n;
     &t[from..to]
+}
+
+// Entry k, which has the subject, matches.
+fn moment_fits(t: &[u16], functions: &[u16], k: usize, event: Event, stack: &[u16]) -> bool
+    requires { ⌜ (entryAt k ≤ reach) × (entryAt (k + 1) ≤ length (now t)) ⌝ }
+    requires { ⌜ now functions ≡ functionDomainsIn (now t) ⌝ }
+    requires { ⌜ Placed (now t) (now stack) event ⌝ }
+    requires { ⌜ hasSubject (now t) k event ≡ true ⌝ }
+    ensures { λ r. ⌜ r ≡ entryMatches (policyIn (now (t .entry))) (entryIn (now (t .entry)) k) (momentOf (now (stack .entry)) (event .ids)) ⌝ }
+{
+    let at = layout::entry_at(k);
+    if !sorts_fit(t, at, event.ids) {
+        return false;
+    }
+    judge_pattern::matches_stack(&functions[..], pattern_at(t, at), &stack[..])
 }
 
 // Entry k has the subject, and neither its uid nor an end of its pattern tells that it does not match.
@@ -198,6 +217,52 @@ fn again(event: Event) -> Event
     }
 }
 
+// Entry k, whose descriptors begin at the first, may grant the read or write: it has the subject, and one of them may hold the domain.
+fn may_grant(t: &[u16], k: usize, first: usize, reads: usize, writes: usize, event: Event) -> bool
+    requires { ⌜ (isCode (event .access) ≡ false) × (event .target ≡ targetDomain (policyIn (now t)) (event .access)) ⌝ }
+    requires { ⌜ (k ≤ wordValues) × (first ≡ firstDescriptor (now t) k) × (first ≤ 2 * wordValues * k) ⌝ }
+    requires { ⌜ (reads ≡ readCount (now t) k) × (writes ≡ writeCount (now t) k) × (reads + writes ≤ 2 * wordValues) ⌝ }
+    requires { ⌜ (entryAt (k + 1) ≤ length (now t)) × (event .target < mostDomains) × (event .target < objectDomainCount (now t)) ⌝ }
+    ensures { λ r. ⌜ MayGrant (now (t .entry)) k event r ⌝ }
+{
+    if !has_subject(t, k, event) {
+        return false;
+    }
+    let access = event.access;
+    let write = is_write(access);
+    let start = first + skipped(write, reads);
+    !none_holds(t, start, asked(write, reads, writes), event)
+}
+
+// An entry, and how many descriptors those before it have.
+struct Place {
+    entry: usize,
+    first: usize,
+}
+
+// The lowest entry from one on, before which so many descriptors stand, that may grant the read or write; or the end.
+fn next_granting(t: &[u16], from: usize, before: usize, entries: usize, event: Event) -> Place
+    requires { ⌜ (isCode (event .access) ≡ false) × (event .target ≡ targetDomain (policyIn (now t)) (event .access)) ⌝ }
+    requires { ⌜ (entries ≡ entryCount (now t)) × (entries < wordValues) × (from ≤ entries) ⌝ }
+    requires { ⌜ (before ≡ firstDescriptor (now t) from) × (before ≤ 2 * wordValues * from) ⌝ }
+    requires { ⌜ Whole (now t) event ⌝ }
+    ensures { λ r. ⌜ NextGranting (now (t .entry)) event from r ⌝ }
+{
+    let mut first = before;
+    let mut k = from;
+    while k < entries {
+        let at = layout::entry_at(k);
+        let reads = word(t, at + layout::READS_AT) as usize;
+        let writes = word(t, at + layout::WRITES_AT) as usize;
+        if may_grant(t, k, first, reads, writes, event) {
+            return Place { entry: k, first };
+        }
+        first += reads + writes;
+        k += 1;
+    }
+    Place { entry: k, first }
+}
+
 // Entry k, whose descriptors begin at the first, has the subject and grants the read or write.
 fn data_granted(
     t: &[u16],
@@ -211,21 +276,18 @@ fn data_granted(
     requires { ⌜ (isCode (event .access) ≡ false) × (event .target ≡ targetDomain (policyIn (now t)) (event .access)) ⌝ }
     requires { ⌜ (k ≤ wordValues) × (first ≡ firstDescriptor (now t) k) × (first ≤ 2 * wordValues * k) ⌝ }
     requires { ⌜ (reads ≡ readCount (now t) k) × (writes ≡ writeCount (now t) k) × (reads + writes ≤ 2 * wordValues) ⌝ }
-    requires { ⌜ (entryAt (k + 1) ≤ length (now t)) × (event .target < mostDomains) × (event .target < objectDomainCount (now t)) ⌝ }
     ensures { λ r. ⌜ r ≡ (hasSubject (now (t .entry)) k event
         && entryGrants (policyIn (now (t .entry))) (entryIn (now (t .entry)) k) (event .access) (binding event) (allocationOf (now (allocation .entry)) event)) ⌝ }
 {
-    if !has_subject(t, k, event) {
-        return false;
-    }
-    let access = event.access;
-    let write = is_write(access);
-    let start = first + skipped(write, reads);
-    let n = asked(write, reads, writes);
-    if none_holds(t, start, n, event) {
-        return false;
-    }
-    judge_match::some_descriptor_grants(&t[..], start, n, again(event), &allocation[..])
+    judge_entries::data_granted(
+        &t[..],
+        k,
+        first,
+        reads,
+        writes,
+        again(event),
+        &allocation[..],
+    )
 }
 
 // The same as of a call for a read or a write.
@@ -240,24 +302,29 @@ fn first_granting_data(
     requires { ⌜ now functions ≡ functionDomainsIn (now t) ⌝ }
     requires { ⌜ Placed (now t) (now stack) event ⌝ }
     requires { ⌜ isCode (event .access) ≡ false ⌝ }
-    requires { ⌜ from ≤ wordValues ⌝ }
+    requires { ⌜ from ≤ entryCount (now t) ⌝ }
     requires { ⌜ Whole (now t) event ⌝ }
     ensures { λ r. ⌜ GrantedFrom (now (t .entry)) (now (stack .entry)) event (allocationOf (now (allocation .entry)) event) from r ⌝ }
 {
     let entries = table::count(t, layout::ENTRY_COUNT_AT);
     let mut first = table::first_descriptor(t, from);
-    let mut k = from;
-    while k < entries {
+    let mut i = from;
+    while i < entries {
+        let next = next_granting(t, i, first, entries, event);
+        let k = next.entry;
+        if k == entries {
+            return entries;
+        }
         let at = layout::entry_at(k);
         let reads = word(t, at + layout::READS_AT) as usize;
         let writes = word(t, at + layout::WRITES_AT) as usize;
-        if data_granted(t, k, first, reads, writes, event, allocation) {
+        if data_granted(t, k, next.first, reads, writes, event, allocation) {
             if moment_fits(t, functions, k, event, stack) {
                 return k;
             }
         }
-        first += reads + writes;
-        k += 1;
+        first = next.first + (reads + writes);
+        i = k + 1;
     }
     entries
 }
@@ -272,7 +339,7 @@ fn first_granting(
 ) -> usize
     requires { ⌜ now functions ≡ functionDomainsIn (now t) ⌝ }
     requires { ⌜ Placed (now t) (now stack) event ⌝ }
-    requires { ⌜ from ≤ wordValues ⌝ }
+    requires { ⌜ from ≤ entryCount (now t) ⌝ }
     requires { ⌜ Whole (now t) event ⌝ }
     ensures { λ r. ⌜ GrantedFrom (now (t .entry)) (now (stack .entry)) event (allocationOf (now (allocation .entry)) event) from r ⌝ }
 {
