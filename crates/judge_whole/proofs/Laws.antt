@@ -99,6 +99,9 @@ module _ (ws : List ℕ) (event : Event) where
   pub entry-there : (k n : ℕ) → n ≡ entryCount ws → k < n → Whole ws event → entryAt (k + 1) ≤ length ws
   entry-there k n counted below whole = let l = whole .entries in omega arith
 
+  pub entries-there : (n : ℕ) → n ≤ entryCount ws → Whole ws event → entryAt n ≤ length ws
+  entries-there n few whole = let l = whole .entries in omega arith
+
   pub word-there : (k n at place : ℕ) → n ≡ entryCount ws → k < n → Whole ws event → at ≡ entryAt k → place < entrySize → at + place < length ws
   word-there k n at place counted below whole stands within = let l = entry-there k n counted below whole in omega arith
 

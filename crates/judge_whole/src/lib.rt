@@ -290,6 +290,29 @@ fn data_granted(
     )
 }
 
+// How many descriptors entry k has.
+fn descriptors_of(t: &[u16], k: usize) -> usize
+    requires { ⌜ (k ≤ wordValues) × (entryAt (k + 1) ≤ length (now t)) ⌝ }
+    ensures { λ r. ⌜ (r ≡ readCount (now (t .entry)) k + writeCount (now (t .entry)) k) × (r ≤ 2 * wordValues) ⌝ }
+{
+    let at = layout::entry_at(k);
+    word(t, at + layout::READS_AT) as usize + word(t, at + layout::WRITES_AT) as usize
+}
+
+// How many descriptors the first n entries have.
+fn first_descriptor(t: &[u16], n: usize) -> usize
+    requires { ⌜ (n ≤ wordValues) × (entryAt n ≤ length (now t)) ⌝ }
+    ensures { λ r. ⌜ (r ≡ firstDescriptor (now (t .entry)) n) × (r ≤ 2 * wordValues * n) ⌝ }
+{
+    let mut sum: usize = 0;
+    let mut k: usize = 0;
+    while k < n {
+        sum += descriptors_of(t, k);
+        k += 1;
+    }
+    sum
+}
+
 // The same as of a call for a read or a write.
 fn first_granting_data(
     t: &[u16],
@@ -307,7 +330,7 @@ fn first_granting_data(
     ensures { λ r. ⌜ GrantedFrom (now (t .entry)) (now (stack .entry)) event (allocationOf (now (allocation .entry)) event) from r ⌝ }
 {
     let entries = table::count(t, layout::ENTRY_COUNT_AT);
-    let mut first = table::first_descriptor(t, from);
+    let mut first = first_descriptor(t, from);
     let mut i = from;
     while i < entries {
         let next = next_granting(t, i, first, entries, event);

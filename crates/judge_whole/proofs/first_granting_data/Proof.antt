@@ -7,7 +7,7 @@ use Rattle.table.proofs.Laws.{sum-again, both-counts}
 use Rattle.paper.specs.Table.{entryCount, firstDescriptor}
 use Rattle.judge_match.specs.Moments.{allocationOf}
 use Rattle.judge_entries.proofs.Passes.{granted-has-it, left, count-of-entry, data-ends, data-not-granted, data-not-matched, data-allowed}
-use Rattle.judge_whole.proofs.Laws.{entry-there, word-there, next-decides, next-below}
+use Rattle.judge_whole.proofs.Laws.{entries-there, entry-there, word-there, next-decides, next-below}
 use borrow.Author.Needs.{needs}
 use Rattle.judge_whole.proofs.first_granting_data.Statement.{statement}
 use Rattle.judge_whole.proofs.first_granting_data.Tie as tie
@@ -26,7 +26,9 @@ count-requires : tie.Need-count-requires Inv-loop μ-loop
 count-requires c κs = search needs
 
 first-descriptor-requires : tie.Need-first-descriptor-requires Inv-loop μ-loop
-first-descriptor-requires c κs = search needs
+first-descriptor-requires c κs =
+    let pre = c .before .before .before .before .before .pre in
+    (search needs, entries-there _ _ _ (pre .1 .1 .1 .0) (pre .1 .1 .1 .1))
 
 loop-holds : tie.Need-loop-holds Inv-loop μ-loop
 loop-holds c = search needs
@@ -160,7 +162,9 @@ loop-again c =
     let below = next-below _ _ _ _ found _ counted (c .before .before .before .before .before .before .if1 .left) in
     let same = next-decides _ _ _ _ found _ _ _ (pre .1 .0) (c .before .before .before .before .before .before .before .before .before .loop .inv .3) in
     let small = found .small in
-    let counts = both-counts (c .before .before .before .before .before .before .before .before .before .before .before .before .before .before .before .before .args .t .now) _ _ _ _ (c .before .before .before .before .before .entry-at .ensures) (c .before .before .before .before .word .ensures) (c .before .before .before .word2 .ensures) in (
+    let t = c .before .before .before .before .before .before .before .before .before .before .before .before .before .before .before .before .args .t .now in
+    let at = c .before .before .before .before .before .entry-at .ensures in
+    let counts = both-counts t _ _ _ _ at (c .before .before .before .before .word .ensures) (c .before .before .before .word2 .ensures) in (
       search (needs, below),
       sum-again _ _ _ _ (found .stands) counts,
       search (needs, small),
