@@ -1,5 +1,6 @@
 -- The walk over the page: the fields that were listed, and what is left of the page, are the page.
 use mathlib.Core.Path.{_≡_, refl, sym, ap, _∙_}
+use mathlib.Core.Bool.{Bool}
 use mathlib.Core.List.{List, [], _++_, append-nil, append-assoc}
 use Prim.Native.Nat.{ℕ, zero, suc, _+_, _-_, _*_, _<_, _≤_}
 use native.Mathlib.Omega.{arith}
@@ -10,7 +11,7 @@ use Rattle.paper.specs.Page as paper
 use Rattle.paper.specs.Page.{Outcome, fields, fault, andFields, beforeFirst, pageOf}
 use Rattle.paper.specs.Rules.{unlessLine}
 use Rattle.paper.specs.Promises.{textPage}
-use Rattle.text_page.specs.Walk.{atStart, pageLeft, pageNext, places, Within}
+use Rattle.text_page.specs.Walk.{atStart, cursorBehind, pageLeft, pageNext, places, Within}
 use Rattle.text_page.specs.declared.Cursor.{Cursor}
 use Rattle.text_page.specs.declared.Next as next
 use Rattle.text_page.specs.declared.Next.the-variants.{Field, End, Fault}
@@ -47,21 +48,22 @@ module _ (t list : List ℕ) (c : Cursor) (e : c ≡ atStart) where
   pub starts-line : c .line ≤ c .at + 1
   starts-line = rw e (omega arith)
 
-module _ (t list : List ℕ) (c d : Cursor) (r : next.Next) (w : Within t (c .at) r) (n l p a b : ℕ) (q : r ≡ Field l p a b d) where
-  field-within : Within t (c .at) (Field l p a b d)
+module _ (t list : List ℕ) (c : Cursor) (r : next.Next) (w : Within t (c .at) r) (n l p a b x : ℕ) (bare : Bool) (q : r ≡ Field l p a bare b x) where
+  field-within : Within t (c .at) (Field l p a bare b x)
   field-within = rw q at w
 
-  pub less : length t - d .at < length t - c .at
-  less = omega (arith, field-within .2, field-within .3)
+  module _ (d : Cursor) (e : d ≡ cursorBehind l p bare x) where
+    pub less : length t - d .at < length t - c .at
+    less = rw e (omega (arith, field-within .2, field-within .3))
 
-  pub stays : d .at ≤ length t
-  stays = field-within .3
+    pub stays : d .at ≤ length t
+    stays = rw e (field-within .3)
 
-  pub line-stays : d .line ≤ d .at + 1
-  line-stays = field-within .4
+    pub line-stays : d .line ≤ d .at + 1
+    line-stays = rw e (field-within .4)
 
-  pub few-stay : 8 * n ≤ c .at → 8 * (n + 1) ≤ d .at
-  few-stay h = omega (arith, field-within .2)
+    pub few-stay : 8 * n ≤ c .at → 8 * (n + 1) ≤ d .at
+    few-stay h = rw e (omega (arith, field-within .2))
 
   module _ (whole : ℕ) (h : 8 * n ≤ c .at) (small : length t ≤ 65536) (big : fieldSize * mostFields ≤ whole) (same : length list ≡ whole) where
     pub room-left : fieldSize * (n + 1) ≤ length list
@@ -83,13 +85,14 @@ module _ (t list : List ℕ) (c d : Cursor) (r : next.Next) (w : Within t (c .at
       pub keeps-length : length list′ ≡ whole
       keeps-length = rw e (length-put list n l p a b ∙ same)
 
-      pub bytes-few : bytesTo list n ≤ c .at → bytesTo list′ (n + 1) ≤ d .at
-      bytes-few k = rw e (omega (arith, bytes-put list n l p a b room-left, field-within .5))
+      module _ (d : Cursor) (u : d ≡ cursorBehind l p bare x) where
+        pub bytes-few : bytesTo list n ≤ c .at → bytesTo list′ (n + 1) ≤ d .at
+        bytes-few k = rw (e, u) (omega (arith, bytes-put list n l p a b room-left, field-within .5))
 
-      pub again : pageLeft t c ≡ pageNext t r → andFields (between t list 0 n) (pageLeft t c) ≡ pageOf t → andFields (between t list′ 0 (n + 1)) (pageLeft t d) ≡ pageOf t
-      again f inv =
-          let g : pageLeft t c ≡ pageNext t (Field l p a b d) = rw q at f in
-          rw (e, between-put list n l p a b room-left t, ← and-more (between t list 0 n)) (rw g at inv)
+        pub again : pageLeft t c ≡ pageNext t r → andFields (between t list 0 n) (pageLeft t c) ≡ pageOf t → andFields (between t list′ 0 (n + 1)) (pageLeft t d) ≡ pageOf t
+        again f inv =
+            let g : pageLeft t c ≡ pageNext t (Field l p a bare b x) = rw q at f in
+            rw (e, u, between-put list n l p a b room-left t, ← and-more (between t list 0 n)) (rw g at inv)
 
 module _ (t list : List ℕ) (c : Cursor) (r : next.Next) (n : ℕ) (e : pageLeft t c ≡ pageNext t r) (inv : andFields (between t list 0 n) (pageLeft t c) ≡ pageOf t) where
   pub ended : r ≡ End → foundIn t list (Listed n) ≡ pageOf t

@@ -98,12 +98,13 @@ fn list_page(t: &[u8], list: &mut [u32]) -> Found
                 line,
                 place,
                 start,
+                bare,
                 end,
-                after,
+                next,
             } => {
                 put_field(list, n, line, place, start, end);
                 n += 1;
-                c = after;
+                c = text_page::behind(line, place, bare, next);
             }
             Next::End => {
                 return Found::Listed(n);

@@ -17,7 +17,7 @@ use Rattle.paper.specs.Page.{Outcome, fields, fault, andFields, beforeFirst, pa
 use Rattle.paper.specs.Rules.{unlessLine}
 use Rattle.paper.specs.Promises.{textPage, readingOf}
 use Rattle.laws_page.proofs.Steps.{Bounded, bounded, lines-few}
-use Rattle.text_page.specs.Walk.{atStart, pageLeft, pageNext, Within}
+use Rattle.text_page.specs.Walk.{atStart, cursorBehind, pageLeft, pageNext, Within}
 use Rattle.text_page.specs.declared.Cursor.{Cursor}
 use Rattle.text_page.specs.declared.Next as next
 use Rattle.text_page.specs.declared.Next.the-variants.{Field, End, Fault}
@@ -44,22 +44,26 @@ read-behind : (fs : List paper.Field) (p : Outcome) → readingOf (andFields fs 
 read-behind fs (fields gs) = refl
 read-behind fs (fault k m) = refl
 
-module _ (t : List ℕ) (c d : Cursor) (r : next.Next) (w : Within t (c .at) r) (n p a b : ℕ) (q : r ≡ Field n p a b d) where
-  field-within : Within t (c .at) (Field n p a b d)
+module _ (t : List ℕ) (c : Cursor) (r : next.Next) (w : Within t (c .at) r) (n p a b x : ℕ) (bare : Bool) (q : r ≡ Field n p a bare b x) where
+  field-within : Within t (c .at) (Field n p a bare b x)
   field-within = rw q at w
 
-  pub less : length t - d .at < length t - c .at
-  less = omega (arith, field-within .2, field-within .3)
+  pub line-few : length t ≤ 65536 → n ≤ 65536
+  line-few h = omega (arith, field-within .6)
 
-  pub stays : d .at ≤ length t
-  stays = field-within .3
+  module _ (d : Cursor) (e : d ≡ cursorBehind n p bare x) where
+    pub less : length t - d .at < length t - c .at
+    less = rw e (omega (arith, field-within .2, field-within .3))
 
-  pub line-stays : d .line ≤ d .at + 1
-  line-stays = field-within .4
+    pub stays : d .at ≤ length t
+    stays = rw e (field-within .3)
+
+    pub line-stays : d .line ≤ d .at + 1
+    line-stays = rw e (field-within .4)
 
 module _ (t : List ℕ) (c : Cursor) (r : next.Next) (e : pageLeft t c ≡ pageNext t r) (inv : readingOf (pageLeft t c) ≡ readingOf (pageOf t)) where
-  pub again : (n p a b : ℕ) (d : Cursor) → r ≡ Field n p a b d → readingOf (pageLeft t d) ≡ readingOf (pageOf t)
-  again n p a b d q = sym (sym inv ∙ ap readingOf e ∙ rw q (read-behind _ (pageLeft t d)))
+  pub again : (n p a b x : ℕ) (bare : Bool) (d : Cursor) → r ≡ Field n p a bare b x → d ≡ cursorBehind n p bare x → readingOf (pageLeft t d) ≡ readingOf (pageOf t)
+  again n p a b x bare d q f = sym (sym inv ∙ ap readingOf e ∙ rw (q, f) (read-behind _ (pageLeft t (cursorBehind n p bare x))))
 
   pub accepted : r ≡ End → Accepted ≡ readingOf (pageOf t)
   accepted q = sym (sym inv ∙ ap readingOf e ∙ rw q refl)

@@ -93,7 +93,7 @@ module _ (t : List ℕ) (at : ℕ) (l : LineAt) (sp : Splits t at l) where
     module _ (N : next.Next) (inv : nextIn (length t) (stateOf st) n (linesFrom at (drop at t)) ≡ N) where
       -- the answer at a step of this line
       answer : paper.Step → next.Next
-      answer x = nextAfter (length t) n (linesFrom (l .next) (drop (l .next) t)) x (λ st′. nextIn (length t) st′ (n + 1) (linesFrom (l .next) (drop (l .next) t)))
+      answer x = nextAfter (length t) (linesFrom (l .next) (drop (l .next) t)) x (λ st′. nextIn (length t) st′ (n + 1) (linesFrom (l .next) (drop (l .next) t)))
 
       next-is : N ≡ answer (stepOf st n at (take (l .end - at) (drop at t)) s)
       unfolding nextIn answer
@@ -108,7 +108,7 @@ module _ (t : List ℕ) (at : ℕ) (l : LineAt) (sp : Splits t at l) where
       next-stop k m q = sym (next-is ∙ rw q refl)
 
       pub next-field : (p a : ℕ) (b : Bool) → StartsIn (take (l .end - at) (drop at t)) s → s ≡ steps.Field p b a
-          → Field n p (at + a) (l .end) (record { at = l .next; line = n + 1; state = record { place = p; bare = b; line = n } }) ≡ N
+          → Field n p (at + a) b (l .end) (l .next) ≡ N
       unfolding answer
       next-field p a b i q =
           let k : a ≤ length (take (l .end - at) (drop at t)) = rw q at i in
@@ -127,8 +127,7 @@ module _ (t : List ℕ) (at : ℕ) (l : LineAt) (sp : Splits t at l) where
       pub page-stop : (k m : ℕ) → s ≡ steps.Stop k m → P ≡ pageNext t (Fault k m)
       page-stop k m q = page-is ∙ rw q refl
 
-      pub page-field : (p a : ℕ) (b : Bool) → s ≡ steps.Field p b a
-          → P ≡ pageNext t (Field n p (at + a) (l .end) (record { at = l .next; line = n + 1; state = record { place = p; bare = b; line = n } }))
+      pub page-field : (p a : ℕ) (b : Bool) → s ≡ steps.Field p b a → P ≡ pageNext t (Field n p (at + a) b (l .end) (l .next))
       unfolding pageLeft
       page-field p a b q =
           let k : l .end - at - a ≡ l .end - (at + a) = omega arith in

@@ -14,7 +14,7 @@ ghost use Rattle.paper.specs.Limits.{textBytes};
 ghost use Rattle.paper.specs.Page.{atEnd, pageOf};
 ghost use Rattle.paper.specs.Promises.{textPage, readingOf};
 ghost use Rattle.text_page.specs.Steps.{stateOf};
-ghost use Rattle.text_page.specs.Walk.{atStart, nextLeft, lastNext, pageLeft, pageNext, Within};
+ghost use Rattle.text_page.specs.Walk.{atStart, cursorBehind, nextLeft, lastNext, pageLeft, pageNext, Within};
 
 // Where the walk stands: the place of a byte, the line that begins there, and the state after the lines before it.
 pub struct Cursor {
@@ -23,14 +23,16 @@ pub struct Cursor {
     pub state: State,
 }
 
-// The next field, with its value between `start` and `end` and the cursor after it; or the end; or a refusal.
+// The next field, with its value between `start` and `end`, and where the line behind it begins; or the end; or a refusal. `bare` stands
+// between the two: numbers that are written one by one, and then read as one of sixteen bytes, have to be waited for.
 pub enum Next {
     Field {
         line: usize,
         place: usize,
         start: usize,
+        bare: bool,
         end: usize,
-        after: Cursor,
+        next: usize,
     },
     End,
     Fault {
@@ -50,6 +52,18 @@ pub fn start() -> Cursor
             bare: false,
             line: text_lines::NO_LINE,
         },
+    }
+}
+
+// The cursor behind a field. It is made of numbers, and not handed on, for the reason above.
+pub fn behind(line: usize, place: usize, bare: bool, next: usize) -> Cursor
+    requires { ⌜ line ≤ textBytes ⌝ }
+    ensures { λ r. ⌜ r ≡ cursorBehind line place bare next ⌝ }
+{
+    Cursor {
+        at: next,
+        line: line + 1,
+        state: State { place, bare, line },
     }
 }
 
@@ -93,12 +107,9 @@ pub fn next_field(t: &[u8], c: Cursor) -> Next
                     line,
                     place,
                     start: at + start,
+                    bare,
                     end,
-                    after: Cursor {
-                        at: next,
-                        line: line + 1,
-                        state: State { place, bare, line },
-                    },
+                    next,
                 };
             }
             Step::Stop { number, line } => {
@@ -120,13 +131,14 @@ fn page_reading(t: &[u8]) -> Reading
     loop {
         match next_field(t, c) {
             Next::Field {
-                line: _,
-                place: _,
+                line,
+                place,
                 start: _,
+                bare,
                 end: _,
-                after,
+                next,
             } => {
-                c = after;
+                c = behind(line, place, bare, next);
             }
             Next::End => {
                 return Reading::Accepted;

@@ -38,6 +38,9 @@ enum-known-line c = search needs
 put-field-requires : tie.Need-put-field-requires Inv-loop μ-loop
 put-field-requires c κs = search (needs, room-left, line-few, place-few, start-few, end-few)
 
+behind-requires : tie.Need-behind-requires Inv-loop μ-loop
+behind-requires c κs = search (needs, line-few)
+
 add-n : tie.Need-add-n Inv-loop μ-loop
 add-n c = search needs
 
@@ -77,6 +80,7 @@ list-page-spec =
     enum-known-line
     put-field-requires
     add-n
+    behind-requires
     loop-less
     loop-again
     enum-told

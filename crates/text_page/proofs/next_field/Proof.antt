@@ -49,9 +49,6 @@ enum-known-place c = search needs
 add-t20 : tie.Need-add-t20 Inv-loop μ-loop
 add-t20 c = search (needs, start-fits)
 
-add-t21 : tie.Need-add-t21 Inv-loop μ-loop
-add-t21 c = search (needs, line-fits)
-
 returns : tie.Need-returns Inv-loop μ-loop
 unfolding nextLeft pageLeft
 returns c = (
@@ -109,7 +106,6 @@ next-field-spec =
     enum-told
     enum-known-place
     add-t20
-    add-t21
     returns
     enum-known-number
     returns-2

@@ -5,7 +5,7 @@ use lib.ListN.{length}
 use Rattle.paper.specs.Page.{pageOf}
 use Rattle.paper.specs.Promises.{readingOf}
 use Rattle.text_page.specs.Walk.{pageLeft}
-use Rattle.text_page.proofs.Texts.{starts, starts-within, starts-line, less, stays, line-stays, again, accepted, refused, line-fits}
+use Rattle.text_page.proofs.Texts.{starts, starts-within, starts-line, less, stays, line-stays, line-few, again, accepted, refused, line-fits}
 use borrow.Author.Needs.{needs}
 use Rattle.text_page.proofs.page_reading.Statement.{statement}
 use Rattle.text_page.proofs.page_reading.Tie as tie
@@ -25,8 +25,11 @@ loop-holds c = search (needs, starts-within, starts-line, starts)
 next-field-requires : tie.Need-next-field-requires Inv-loop μ-loop
 next-field-requires c κs = search needs
 
-enum-known-after : tie.Need-enum-known-after Inv-loop μ-loop
-enum-known-after c = search needs
+enum-known-line : tie.Need-enum-known-line Inv-loop μ-loop
+enum-known-line c = search needs
+
+behind-requires : tie.Need-behind-requires Inv-loop μ-loop
+behind-requires c κs = search (needs, line-few)
 
 loop-less : tie.Need-loop-less Inv-loop μ-loop
 loop-less c = search (needs, less)
@@ -43,8 +46,8 @@ returns c = search (needs, accepted)
 enum-known-number : tie.Need-enum-known-number Inv-loop μ-loop
 enum-known-number c = search needs
 
-cast-t7 : tie.Need-cast-t7 Inv-loop μ-loop
-cast-t7 c = search (needs, line-fits)
+cast-t10 : tie.Need-cast-t10 Inv-loop μ-loop
+cast-t10 c = search (needs, line-fits)
 
 returns-2 : tie.Need-returns-2 Inv-loop μ-loop
 returns-2 c = search (needs, refused)
@@ -58,11 +61,12 @@ page-reading-spec =
     start-requires
     loop-holds
     next-field-requires
-    enum-known-after
+    enum-known-line
+    behind-requires
     loop-less
     loop-again
     enum-told
     returns
     enum-known-number
-    cast-t7
+    cast-t10
     returns-2)
