@@ -1,4 +1,5 @@
 pub mod Omitted
 pub mod Unbound
+pub mod Weights
 pub mod Principals
 pub mod Twins

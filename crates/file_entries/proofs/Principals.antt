@@ -15,16 +15,16 @@ use Rattle.paper.specs.Entries.{defaultAt, valueAt}
 use Rattle.paper.specs.Rules.{sameSort, sameSortAt, samePrincipal}
 use Rattle.laws.proofs.Tests.{same-equal, both-left, both-right}
 use Rattle.file_fields.specs.Fields.{valueOr}
-use Rattle.file_index.specs.Buckets.{multiplier, hashOf}
-use Rattle.file_entries.specs.Principals.{sorts, hashAt, sortAt, principalHash, entryIn, Hashed}
+use Rattle.file_entries.specs.Weights.{weightOf}
+use Rattle.file_entries.specs.Principals.{sorts, weightAt, sortAt, principalHash, entryIn, Hashed}
 use Rattle.file_entries.proofs.Omitted.{value-is}
 
 -- ---- one part of a principal
 
 module _ (place : ℕ) (fs : List Field) (v omitted : List ℕ) (d : omitted ≡ defaultAt place) (q : v ≡ valueOr omitted (bytes "[]") place fs) where
-  pub hash-is : (r : ℕ) → r ≡ hashOf multiplier v → r ≡ hashAt place fs
-  unfolding hashAt
-  hash-is r e = e ∙ ap (hashOf multiplier) (value-is place fs v omitted d q)
+  pub weight-is : (r : ℕ) → r ≡ weightOf v → r ≡ weightAt place fs
+  unfolding weightAt
+  weight-is r e = e ∙ ap weightOf (value-is place fs v omitted d q)
 
   pub sort-is : (r : ℕ) → r ≡ sortNumber (sortOf v) → r ≡ sortAt place fs
   unfolding sortAt
@@ -61,7 +61,7 @@ unfolding samePrincipal sameSortAt
 principal-is a b s p u g n e f h k l = rw (e, f, h, k, l) refl
 
 pub principal-hash-is : (entry : List Field) (s p u g n : ℕ)
-    → s ≡ hashAt subjectOfEntry entry → p ≡ hashAt (callContextIn executionContext) entry → u ≡ sortAt (uidIn executionContext) entry → g ≡ sortAt (gidIn executionContext) entry
+    → s ≡ weightAt subjectOfEntry entry → p ≡ weightAt (callContextIn executionContext) entry → u ≡ sortAt (uidIn executionContext) entry → g ≡ sortAt (gidIn executionContext) entry
     → n ≡ sortAt (namespaceIn executionContext) entry → (4 * (4 * (4 * (s + p) + u) + g) + n) % 4294967296 ≡ principalHash entry
 unfolding principalHash
 principal-hash-is entry s p u g n e f h k l = rw (e, f, h, k, l) refl
@@ -72,7 +72,7 @@ unfolding sameSortAt sameSort sortAt
 sorts-alike key a b h = eqb-true _ _ h
 
 same-hashes : (a b : List Field) → samePrincipal a b ≡ true → principalHash a ≡ principalHash b
-unfolding samePrincipal principalHash hashAt
+unfolding samePrincipal principalHash weightAt
 same-hashes a b h =
     let subject : valueAt subjectOfEntry a ≡ valueAt subjectOfEntry b = same-equal _ _ (search (both-left, both-right) depth 7) in
     let pattern : valueAt (callContextIn executionContext) a ≡ valueAt (callContextIn executionContext) b = same-equal _ _ (search (both-left, both-right) depth 7) in

@@ -10,15 +10,16 @@ use Rattle.paper.specs.Scalars.{sortNumber, sortOf}
 use Rattle.paper.specs.Page.{Field}
 use Rattle.paper.specs.Entries.{valueAt}
 use Rattle.file_fields.specs.Fields.{fieldSize, between}
-use Rattle.file_index.specs.Buckets.{multiplier, hashes, hashOf}
+use Rattle.file_index.specs.Buckets.{hashes}
+use Rattle.file_entries.specs.Weights.{weightOf}
 
 -- there are four sorts
 abbrev pub sorts : ℕ
 sorts = 4
 
--- the hash of the value at a place
-unfoldable pub hashAt : ℕ → List Field → ℕ
-hashAt place entry = hashOf multiplier (valueAt place entry)
+-- the weight of the value at a place
+unfoldable pub weightAt : ℕ → List Field → ℕ
+weightAt place entry = weightOf (valueAt place entry)
 
 -- the number of the sort at a place
 unfoldable pub sortAt : ℕ → List Field → ℕ
@@ -29,7 +30,7 @@ unfoldable pub principalHash : List Field → ℕ
 principalHash entry =
     (sorts
     * (sorts
-    * (sorts * (hashAt subjectOfEntry entry + hashAt (callContextIn executionContext) entry) + sortAt (uidIn executionContext) entry)
+    * (sorts * (weightAt subjectOfEntry entry + weightAt (callContextIn executionContext) entry) + sortAt (uidIn executionContext) entry)
     + sortAt (gidIn executionContext) entry)
     + sortAt (namespaceIn executionContext) entry)
     % hashes

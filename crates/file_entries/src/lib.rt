@@ -2,9 +2,9 @@
 use paper::limit;
 use text_keys::rows;
 ghost use mathlib.Core.Path.{_≡_};
-ghost use Prim.Native.Nat.{_+_, _*_, _<_, _≤_};
+ghost use Prim.Native.Nat.{_+_, _*_, _/_, _<_, _≤_};
 ghost use lib.Dec.{eqb};
-ghost use lib.ListN.{length};
+ghost use lib.ListN.{length, getD};
 ghost use Rattle.paper.specs.Common.{bytes, anyOf, same, upTo};
 ghost use Rattle.paper.specs.Limits.{mostEntries};
 ghost use Rattle.paper.specs.Listing.{executionContext, contextPlaces};
@@ -14,12 +14,18 @@ ghost use Rattle.paper.specs.Rules.{firstWith, inObjectContexts, isUnboundKey, 
 ghost use Rattle.file_fields.specs.Fields.{fieldSize, placeIn, valueIn, fieldAt, between};
 ghost use Rattle.file_index.specs.Buckets.{hashes};
 ghost use Rattle.file_entries.specs.Keys.{keyIn};
-ghost use Rattle.file_entries.specs.Principals.{sorts, hashAt, sortAt, principalHash, isOtherHash, entryIn, entriesBelow, Hashed, AllHashed};
+ghost use Rattle.file_entries.specs.Weights.{byteValues, fourAt, withEight, eights, weightOf};
+ghost use Rattle.file_entries.specs.Principals.{sorts, weightAt, sortAt, principalHash, isOtherHash, entryIn, entriesBelow, Hashed, AllHashed};
 
 const SORTS: usize = 4;
 
 // Thirty-two bits of a hash are kept.
 const HASHES: usize = 4294967296;
+
+const BYTE_VALUES: usize = 256;
+
+// What sets four bytes apart from the four behind them.
+const APART: usize = 40503;
 
 // Each entry has a start, and the last an end.
 const STARTS: usize = limit::ENTRIES + 1;
@@ -113,7 +119,57 @@ pub fn unbound_line(t: &[u8], list: &[u32], n: usize) -> usize
     line
 }
 
-fn hash_at<'a>(
+fn byte_at(v: &[u8], i: usize) -> usize
+    requires { ⌜ i < length (now v) ⌝ }
+    ensures { λ r. ⌜ (r ≡ getD (now (v .entry)) i 0) × (r < byteValues) ⌝ }
+{
+    v[i] as usize
+}
+
+// Four bytes as one number, the first of them lowest: the compiler takes them in one go.
+fn four_at(v: &[u8], i: usize) -> usize
+    requires { ⌜ i + 4 ≤ length (now v) ⌝ }
+    ensures { λ r. ⌜ (r ≡ fourAt (now (v .entry)) i) × (r < hashes) ⌝ }
+{
+    let high = byte_at(v, i + 2) + BYTE_VALUES * byte_at(v, i + 3);
+    byte_at(v, i) + BYTE_VALUES * (byte_at(v, i + 1) + BYTE_VALUES * high)
+}
+
+// The weight h, gone on over eight bytes.
+fn with_eight(h: usize, v: &[u8], i: usize) -> usize
+    requires { ⌜ (h < hashes) × (i + 8 ≤ length (now v)) ⌝ }
+    ensures { λ r. ⌜ (r ≡ withEight h (now (v .entry)) i) × (r < hashes) ⌝ }
+{
+    let low = four_at(v, i);
+    let high = four_at(v, i + 4);
+    (h * file_index::MULTIPLIER + low * APART + high) % HASHES
+}
+
+// The weight of all bytes but the last, less than eight.
+fn eights(v: &[u8]) -> usize
+    ensures { λ r. ⌜ (r ≡ eights (now (v .entry)) (length (now (v .entry)) / 8)) × (r < hashes) ⌝ }
+{
+    let mut h: usize = 0;
+    let mut k: usize = 0;
+    while 8 * k + 8 <= v.len() {
+        h = with_eight(h, v, 8 * k);
+        k += 1;
+    }
+    h
+}
+
+// A number that equal values have in common. The last eight bytes are taken whether or not some of them were.
+fn weight(v: &[u8]) -> usize
+    ensures { λ r. ⌜ (r ≡ weightOf (now (v .entry))) × (r < hashes) ⌝ }
+{
+    if v.len() < 8 {
+        return file_index::hash(file_index::MULTIPLIER, v);
+    }
+    let last = v.len() - 8;
+    with_eight(eights(v), v, last)
+}
+
+fn weight_at<'a>(
     t: &'a [u8],
     list: &[u32],
     place: usize,
@@ -123,10 +179,10 @@ fn hash_at<'a>(
 ) -> usize
     requires { ⌜ fieldSize * to ≤ length (now list) ⌝ }
     requires { ⌜ now omitted ≡ defaultAt place ⌝ }
-    ensures { λ r. ⌜ (r ≡ hashAt place (between (now (t .entry)) (now (list .entry)) from to)) × (r < hashes) ⌝ }
+    ensures { λ r. ⌜ (r ≡ weightAt place (between (now (t .entry)) (now (list .entry)) from to)) × (r < hashes) ⌝ }
 {
     let v = file_fields::value_at(t, list, place, from, to, omitted, b"[]");
-    file_index::hash(file_index::MULTIPLIER, v)
+    weight(v)
 }
 
 fn sort_at(t: &[u8], list: &[u32], place: usize, from: usize, to: usize) -> usize
@@ -143,8 +199,8 @@ fn principal_hash(t: &[u8], list: &[u32], from: usize, to: usize) -> u32
     requires { ⌜ fieldSize * to ≤ length (now list) ⌝ }
     ensures { λ r. ⌜ r ≡ principalHash (between (now (t .entry)) (now (list .entry)) from to) ⌝ }
 {
-    let subject = hash_at(t, list, rows::SUBJECT, from, to, b"all");
-    let pattern = hash_at(t, list, rows::EXECUTION_CALL_CONTEXT, from, to, b"[all]");
+    let subject = weight_at(t, list, rows::SUBJECT, from, to, b"all");
+    let pattern = weight_at(t, list, rows::EXECUTION_CALL_CONTEXT, from, to, b"[all]");
     let uid = sort_at(t, list, rows::EXECUTION_UID, from, to);
     let gid = sort_at(t, list, rows::EXECUTION_GID, from, to);
     let namespace = sort_at(t, list, rows::EXECUTION_NAMESPACE, from, to);

@@ -1,21 +1,21 @@
--- Two hashes and three sorts in one number, of which thirty-two bits are kept.
+-- Two weights and three sorts in one number, of which thirty-two bits are kept.
 use Rattle.file_entries.proofs.Omitted.{subject-omitted, pattern-omitted, uid-omitted, gid-omitted, namespace-omitted}
 use Rattle.file_entries.proofs.Principals.{principal-hash-is}
 use borrow.Author.Needs.{needs}
 use Rattle.file_entries.proofs.principal_hash.Statement.{statement}
 use Rattle.file_entries.proofs.principal_hash.Tie as tie
 
-slice-aggregate-hash-at : tie.Need-slice-aggregate-hash-at
-slice-aggregate-hash-at c = search needs
+slice-aggregate-weight-at : tie.Need-slice-aggregate-weight-at
+slice-aggregate-weight-at c = search needs
 
-hash-at-requires : tie.Need-hash-at-requires
-hash-at-requires c κs = search (needs, subject-omitted)
+weight-at-requires : tie.Need-weight-at-requires
+weight-at-requires c κs = search (needs, subject-omitted)
 
-slice-aggregate-hash-at-2 : tie.Need-slice-aggregate-hash-at-2
-slice-aggregate-hash-at-2 c = search needs
+slice-aggregate-weight-at-2 : tie.Need-slice-aggregate-weight-at-2
+slice-aggregate-weight-at-2 c = search needs
 
-hash-at-requires-2 : tie.Need-hash-at-requires-2
-hash-at-requires-2 c κs = search (needs, pattern-omitted)
+weight-at-requires-2 : tie.Need-weight-at-requires-2
+weight-at-requires-2 c κs = search (needs, pattern-omitted)
 
 sort-at-requires : tie.Need-sort-at-requires
 sort-at-requires c κs = search (needs, uid-omitted)
@@ -57,10 +57,10 @@ pub principal-hash-spec : {M : Type 1} → statement M
 principal-hash-spec =
     tie.close
     (tie.spec
-    slice-aggregate-hash-at
-    hash-at-requires
-    slice-aggregate-hash-at-2
-    hash-at-requires-2
+    slice-aggregate-weight-at
+    weight-at-requires
+    slice-aggregate-weight-at-2
+    weight-at-requires-2
     sort-at-requires
     sort-at-requires-2
     sort-at-requires-3
