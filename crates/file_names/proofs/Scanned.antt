@@ -1,5 +1,5 @@
 -- A scan over the fields for the first with a fault, over any test; and the lists of domains among them, which separate words show to be without one.
-use mathlib.Core.Path.{_≡_, refl, sym, ap, _∙_}
+use mathlib.Core.Path.{_≡_, refl, sym, _∙_}
 use mathlib.Core.Bool.{Bool, true, false, cond, not, _&&_, _||_}
 use mathlib.Core.List.{List, [], _++_}
 use Prim.Native.Nat.{ℕ, zero, suc, _+_, _-_, _<_, _≤_}
@@ -87,26 +87,16 @@ module _ (t list : List ℕ) (i : ℕ) where
 
 -- ---- the words of one field
 
-module _ (list words starts : List ℕ) (i p : ℕ) (k : Sought) (e : p ≡ placeIn list i) (f : k ≡ soughtAt p) where
-  separate-at : (b : Bool) → isListed k ≡ b → cond b (separate (replicate 8 0) (wordsIn words starts i)) true ≡ listSeparate list words starts i
+module _ (list words starts : List ℕ) (i p : ℕ) (k : Sought) (b : Bool) (e : p ≡ placeIn list i) (f : k ≡ soughtAt p) (g : b ≡ isListed k) where
+  separate-at : (l : Bool) → b ≡ l → cond l (separate (replicate 8 0) (wordsIn words starts i)) true ≡ listSeparate list words starts i
   unfolding listSeparate
-  separate-at b h = rw (← e, ← f, h) refl
+  separate-at l h = rw (← e, ← f, ← g, h) refl
 
-  module _ (ws : List ℕ) (r : Bool) (q : ws ≡ wordsIn words starts i) (g : r ≡ separate (replicate 8 0) ws) where
-    pub of-subjects : k ≡ Subjects → r ≡ listSeparate list words starts i
-    of-subjects h = rw (g, q) (separate-at true (ap isListed h))
+  pub not-listed : not b ≡ true → true ≡ listSeparate list words starts i
+  not-listed h = separate-at false (not-true b h)
 
-    pub of-objects : k ≡ Objects → r ≡ listSeparate list words starts i
-    of-objects h = rw (g, q) (separate-at true (ap isListed h))
-
-  pub of-subject : k ≡ Subject → true ≡ listSeparate list words starts i
-  of-subject h = separate-at false (ap isListed h)
-
-  pub of-elements : k ≡ Elements → true ≡ listSeparate list words starts i
-  of-elements h = separate-at false (ap isListed h)
-
-  pub of-nothing : k ≡ Nothing → true ≡ listSeparate list words starts i
-  of-nothing h = separate-at false (ap isListed h)
+  pub listed-here : (ws : List ℕ) (r : Bool) → not b ≡ false → ws ≡ wordsIn words starts i → r ≡ separate (replicate 8 0) ws → r ≡ listSeparate list words starts i
+  listed-here ws r h q s = rw (s, q) (separate-at true (not-false b h))
 
 -- ---- the words of every field
 

@@ -20,7 +20,7 @@ ghost use Rattle.paper.specs.Rules.{firstWith, repeatsInList};
 ghost use Rattle.file_fields.specs.Fields.{fieldSize, fieldAt, between, wellSpaced};
 ghost use Rattle.file_words.specs.Words.{WordedSomehow};
 ghost use Rattle.file_names.specs.Naming.{Sound};
-ghost use Rattle.file_names.specs.Separate.{separate, listSeparate, listsSeparate};
+ghost use Rattle.file_names.specs.Separate.{separate, isListed, listSeparate, listsSeparate};
 
 // The words are numbers of domains, and no two are the same.
 fn distinct(words: &[u16]) -> bool
@@ -42,19 +42,29 @@ fn distinct(words: &[u16]) -> bool
     true
 }
 
+// A list of domains stands there.
+fn is_listed(sought: Sought) -> bool
+    ensures { λ r. ⌜ r ≡ isListed sought ⌝ }
+{
+    match sought {
+        Sought::Subjects => true,
+        Sought::Objects => true,
+        Sought::Subject => false,
+        Sought::Elements => false,
+        Sought::Nothing => false,
+    }
+}
+
 // The same of the words of field i, where it is a list of domains.
 fn list_distinct(list: &[u32], words: &[u16], starts: &[usize], i: usize) -> bool
     requires { ⌜ fieldSize * (i + 1) ≤ length (now list) ⌝ }
     requires { ⌜ i + 1 < length (now starts) ⌝ }
     ensures { λ r. ⌜ r ≡ listSeparate (now (list .entry)) (now (words .entry)) (now (starts .entry)) i ⌝ }
 {
-    match sought_at(place_of(list, i)) {
-        Sought::Subjects => distinct(words_of(words, starts, i)),
-        Sought::Objects => distinct(words_of(words, starts, i)),
-        Sought::Subject => true,
-        Sought::Elements => true,
-        Sought::Nothing => true,
+    if !is_listed(sought_at(place_of(list, i))) {
+        return true;
     }
+    distinct(words_of(words, starts, i))
 }
 
 // The same of every field: so most files are told quickly.
