@@ -103,14 +103,11 @@ module _ (t list : List ℕ) (n : ℕ) (sound : Sound t list n) (limits : overLi
   both-fit : (size : ℕ) → 2817 ≤ size → namesAt + nameSize * length (flatMap (namedAt objectName subjectName) fs) ≤ size
   both-fit size h = omega (arith, domains-total objectName subjectName fs, counts .objectDomains, counts .subjectDomains)
 
-  objects-fit : (size : ℕ) → 8193 ≤ size → namesAt + nameSize * length (flatMap (membersNamed objectMembers) fs) ≤ size
-  objects-fit size h = omega (arith, members-total objectMembers fs, counts .objects)
-
   pub room-for-both : (m : ℕ) → namesAt + nameSize * length (namesTo (namedAt 2 5) t list n) ≤ length (set (replicate 2817 0) 0 m)
   room-for-both m = both-fit (length (set (replicate 2817 0) 0 m)) (omega (arith, cleared-length 2817 m))
 
-  pub room-for-objects : (m : ℕ) → namesAt + nameSize * length (namesTo (membersNamed 3) t list n) ≤ length (set (replicate 8193 0) 0 m)
-  room-for-objects m = objects-fit (length (set (replicate 8193 0) 0 m)) (omega (arith, cleared-length 8193 m))
+  pub objects-room : (ix : List ℕ) → Fresh t ix 1024 → namesAt + nameSize * length (namesTo (membersNamed 3) t list n) ≤ length ix
+  objects-room ix fresh = omega (arith, members-total objectMembers fs, counts .objects, fresh .room)
 
   pub both-line : (ix : List ℕ) (r : Indexed) → IndexedAs (namedAt 2 5) t ix fs r → r .twice ≡ repeated domainNamed [] fs
   both-line ix r indexed = rw named-both at (indexed .line)
@@ -223,6 +220,9 @@ module _ (t list : List ℕ) (n : ℕ) (sound : Sound t list n) (limits : overLi
 -- ---- room for the names that went in
 
 -- an index with no more names than its limit has room for them
+pub still-room : (n before after : ℕ) → n < before → after ≡ before → n < after
+still-room n before after h e = omega arith
+
 went-in : (t ix ix₀ : List ℕ) (n limit : ℕ) → n ≤ limit → Fresh t ix₀ limit → length ix ≡ length ix₀ → (namesAt + nameSize * n ≤ length ix) × (n ≤ limit)
 went-in t ix ix₀ n limit few fresh e = (omega (arith, fresh .room), few)
 

@@ -62,16 +62,16 @@ fn domains_line(t: &[u8], list: &[u32], n: usize, end: usize) -> usize
     found.twice
 }
 
-// The line of the first object that stands twice.
-fn objects_line(t: &[u8], list: &[u32], n: usize, end: usize) -> usize
+// The line of the first object that stands twice. Nothing else is asked of the objects' index.
+fn objects_line(t: &[u8], list: &[u32], n: usize, end: usize, ix: &mut [usize]) -> usize
     requires { ⌜ Sound (now t) (now list) n ⌝ }
     requires { ⌜ overLimit (between (now t) (now list) 0 n) ≡ noLine ⌝ }
     requires { ⌜ end ≡ mapsEnd (now list) n ⌝ }
+    requires { ⌜ Fresh (now t) (now ix) mostMembers ⌝ }
     ensures { λ r. ⌜ r ≡ repeated (membersNamed objectMembers) [] (between (now (t .entry)) (now (list .entry)) 0 n) ⌝ }
+    ensures { λ _. ⌜ length (now (ix .exit)) ≡ length (now (ix .entry)) ⌝ }
 {
-    let mut ix = [0usize; MEMBERS_SIZE];
-    ix[layout::MULTIPLIER_AT] = MULTIPLIER;
-    let found = index_members(t, list, n, end, rows::OBJECT_MEMBERS, &mut ix);
+    let found = index_members(t, list, n, end, rows::OBJECT_MEMBERS, ix);
     found.twice
 }
 
@@ -160,7 +160,8 @@ fn word_lists(
     lists_line(t, list, n, words, starts)
 }
 
-// 7 over the whole file, and the indexes of its maps; where nothing stands twice, the words of its names too.
+// 7 over the whole file, and the indexes of its maps; where nothing stands twice, the words of its names too. Before there are words, the
+// objects' index stands where they will start: so one array less has to be cleared.
 pub fn index_names(
     t: &[u8],
     list: &[u32],
@@ -177,6 +178,7 @@ pub fn index_names(
     requires { ⌜ Fresh (now t) (now «objects_ix») mostDomains ⌝ }
     requires { ⌜ Fresh (now t) (now «subjects_ix») mostDomains ⌝ }
     requires { ⌜ Fresh (now t) (now «functions_ix») mostMembers ⌝ }
+    requires { ⌜ Fresh (now t) (now starts) mostMembers ⌝ }
     ensures { λ r. ⌜ r .twice ≡ namedTwice (between (now (t .entry)) (now (list .entry)) 0 n) ⌝ }
     ensures { λ r. ⌜ (r .twice ≡ 0 → Maps (now (t .entry)) (between (now (t .entry)) (now (list .entry)) 0 n) (now («objects_ix» .exit))
         (now («subjects_ix» .exit)) (now («functions_ix» .exit)) (r .objects) (r .subjects) (r .functions)) ⌝ }
@@ -186,7 +188,7 @@ pub fn index_names(
 {
     let end = maps_end(list, n);
     let domains = domains_line(t, list, n, end);
-    let objects = objects_line(t, list, n, end);
+    let objects = objects_line(t, list, n, end, starts);
     let maps = index_maps(t, list, n, end, objects_ix, subjects_ix, functions_ix);
     let lists = word_lists(
         t,

@@ -41,8 +41,8 @@ module _ (t : List ℕ) where
 pub words-room : (t list : List ℕ) (n : ℕ) → Sound t list n → bytesTo list n ≤ length (replicate {A = ℕ} 65536 0)
 words-room t list n s = rw (length-replicate {A = ℕ} 65536 0) (omega (arith, s .fits, s .small))
 
-pub starts-room : (n : ℕ) → n ≤ mostFields → n < length (replicate {A = ℕ} 8193 0)
-starts-room n h = rw (length-replicate {A = ℕ} 8193 0) (omega arith)
+pub starts-room : (n m : ℕ) → n ≤ mostFields → n < length (set (replicate 8193 0) multiplierAt m)
+starts-room n m h = rw (length-set, length-replicate) (omega arith)
 
 -- ---- a line that a rule names is one that a text can have
 

@@ -142,6 +142,7 @@ fn read_fields(t: &[u8], list: &[u32], n: usize, table: &mut [u16]) -> Reading
     functions_ix[layout::MULTIPLIER_AT] = MULTIPLIER;
     let mut words = [0u16; WORDS];
     let mut starts = [0usize; STARTS];
+    starts[layout::MULTIPLIER_AT] = MULTIPLIER;
     let names = index_names(
         t,
         list,

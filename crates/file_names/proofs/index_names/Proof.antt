@@ -1,5 +1,5 @@
 -- The smallest of four lines is that of 7; where there is none, the maps are indexed, no name stands in one twice, and the words are those of the file.
-use Rattle.file_names.proofs.Mapped.{went-room, twice-told, maps-told, words-told, distinct-told}
+use Rattle.file_names.proofs.Mapped.{still-room, went-room, twice-told, maps-told, words-told, distinct-told}
 use borrow.Author.Needs.{needs}
 use Rattle.file_names.proofs.index_names.Statement.{statement}
 use Rattle.file_names.proofs.index_names.Tie as tie
@@ -15,16 +15,22 @@ objects-line-requires c κs = search needs
 
 index-maps-requires : tie.Need-index-maps-requires
 index-maps-requires c κs =
-    let pre = c .before .before .before .before .before .before .before .before .before .before .before .before .before .pre in
-    let end = c .before .before .before .before .before .maps-end .ensures in
-    (pre .0, (pre .1 .1 .0, (end, pre .1 .1 .1)))
+    let pre = c .before .before .before .before .before .before .before .before .before .before .before .before .before .before .before .before .pre in
+    let end = c .before .before .before .before .before .before .before .before .maps-end .ensures in
+    (pre .0, (pre .1 .1 .0, (end, (pre .1 .1 .1 .0, (pre .1 .1 .1 .1 .0, pre .1 .1 .1 .1 .1 .0)))))
 
 word-lists-requires : tie.Need-word-lists-requires
 word-lists-requires c κs =
-    let pre = c .before .before .before .before .before .before .before .before .before .before .before .before .before .before .before .before .before
-    .before .before .before .before .before .before .before .before .pre in
-    let maps = c .before .before .before .before .before .before .before .before .before .before .before .index-maps .ensures in
-    (pre .0, (pre .1 .0, went-room _ _ _ _ _ _ _ _ _ (maps .0) (pre .1 .1 .1 .0) (pre .1 .1 .1 .1 .0) (pre .1 .1 .1 .1 .1) (maps .1 .0) (maps .1 .1) (maps .1 .2)))
+    let pre = c .before .before .before .before .before .before .before .before .before .before .before .before .before .before .before .before .before .before .before
+    .before .before .before .before .before .before .before .before .before .pre in
+    let objects = c .before .before .before .before .before .before .before .before .before .before .before .before .before .before .before .before .before .objects-line .ensures in
+    let maps = c .before .before .before .before .before .before .before .before .before .before .before .index-maps .ensures in (
+      pre .0,
+      (
+        (pre .1 .0 .0, still-room _ _ _ (pre .1 .0 .1) (objects .1)),
+        went-room _ _ _ _ _ _ _ _ _ (maps .0) (pre .1 .1 .1 .0) (pre .1 .1 .1 .1 .0) (pre .1 .1 .1 .1 .1 .0) (maps .1 .0) (maps .1 .1) (maps .1 .2),
+      ),
+    )
 
 earlier-requires : tie.Need-earlier-requires
 earlier-requires c κs = search needs
@@ -52,14 +58,13 @@ same-length-5 c = search needs
 
 returns : tie.Need-returns
 returns c =
-    let pre = c .before .before .before .before .before .before .before .before .before .before .before .before .before .before .before .before .before
-    .before .before .before .before .before .before .before .before .before .before .before .before .before .before .before .before .pre in
-    let domains = c .before .before .before .before .before .before .before .before .before .before .before .before .before .before .before .before
+    let pre = c .before .before .before .before .before .before .before .before .before .before .before .before .before .before .before .before .before .before .before
+    .before .before .before .before .before .before .before .before .before .before .before .before .before .before .before .before .before .pre in
+    let domains = c .before .before .before .before .before .before .before .before .before .before .before .before .before .before .before .before .before .before .before
     .before .before .before .before .before .before .before .before .domains-line .ensures in
-    let objects = c .before .before .before .before .before .before .before .before .before .before .before .before .before .before .before .before
-    .before .before .before .before .before .before .before .objects-line .ensures in
-    let maps = c .before .before .before .before .before .before .before .before .before .before .before .before .before .before .before .before .before
-    .before .before .index-maps .ensures in
+    let objects = c .before .before .before .before .before .before .before .before .before .before .before .before .before .before .before .before .before .before .before
+    .before .before .before .before .before .before .objects-line .ensures .0 in
+    let maps = c .before .before .before .before .before .before .before .before .before .before .before .before .before .before .before .before .before .before .before .index-maps .ensures in
     let lists = c .before .before .before .before .before .before .before .word-lists .ensures in
     let first = c .before .before .earlier .ensures in
     let second = c .before .earlier2 .ensures in

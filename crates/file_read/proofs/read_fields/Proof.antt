@@ -23,6 +23,9 @@ array-write-subjects-ix c = search needs
 array-write-functions-ix : tie.Need-array-write-functions-ix
 array-write-functions-ix c = search needs
 
+array-write-starts : tie.Need-array-write-starts
+array-write-starts c = search needs
+
 slice-aggregate-index-names : tie.Need-slice-aggregate-index-names
 slice-aggregate-index-names c = search needs
 
@@ -43,7 +46,7 @@ index-names-requires c κs = (
   search needs,
   (
     (search (needs, words-room), search (needs, starts-room)),
-    (search (needs, no-over), (search (needs, fresh-domains), (search (needs, fresh-domains), search (needs, fresh-members)))),
+    (search (needs, no-over), (search (needs, fresh-domains), (search (needs, fresh-domains), (search (needs, fresh-members), search (needs, fresh-members))))),
   ),
 )
 
@@ -118,6 +121,7 @@ read-fields-spec =
     array-write-objects-ix
     array-write-subjects-ix
     array-write-functions-ix
+    array-write-starts
     slice-aggregate-index-names
     slice-aggregate-index-names-2
     slice-aggregate-index-names-3
