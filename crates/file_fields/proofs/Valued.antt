@@ -1,6 +1,6 @@
 -- What a value holds: its sort, and its elements, one more than there are commas.
 use mathlib.Core.Path.{_≡_, refl, sym, ap, _∙_}
-use mathlib.Core.Bool.{Bool, true, false, cond, not, _||_}
+use mathlib.Core.Bool.{Bool, true, false, cond, not, _||_, Bool·beq}
 use mathlib.Core.List.{List, [], _∷_, map}
 use Prim.Native.Nat.{ℕ, zero, suc, _+_, _-_, _*_, _^_, _<_, _≤_}
 use native.Mathlib.Omega.{arith}
@@ -9,12 +9,13 @@ use mir.Val.{Fits}
 use lib.Dec.{eqb}
 use lib.ListN.{length, getD, take, drop, length-map, length-take, drop-of-length-le}
 use lib.Seq.{drop-drop}
-use borrow.Author.Tests.{eqb-false, eq-eqb, ne-eqb, lt-ltb, le-ltb}
+use borrow.Author.Tests.{eqb-true, eqb-false, eq-eqb, ne-eqb, lt-ltb, le-ltb}
 use Rattle.paper.specs.Common.{isEmpty, is, cut, onPiece}
-use Rattle.paper.specs.Text.{comma}
+use Rattle.paper.specs.Text.{comma, space}
 use Rattle.paper.specs.Scalars.{root, user, sortNumber, sortOf}
 use Rattle.paper.specs.Lists.{bracketed, inside, spaced, unspaced, elementsIn, elements}
 use Rattle.paper.specs.Rules.{earlier}
+use Rattle.laws.proofs.Tests.{both-left, both-right}
 use Rattle.laws.proofs.Places.{drop-more}
 use Rattle.file_fields.specs.Fields.{listSpaced}
 use Rattle.file_fields.specs.Values.{insideOf, block, commas}
@@ -89,14 +90,23 @@ pieces-counted (b ∷ bs) = go (eqb b comma) (cut comma bs) (pieces-counted bs)
     go false [] ih = absurd (omega arith)
     go false (p ∷ ps) ih = omega arith
 
-commas-few : (s : List ℕ) → commas s ≤ length s
-unfolding commas
-commas-few [] = omega arith
-commas-few (b ∷ bs) = go (eqb b comma) (commas-few bs)
+-- a space stands behind each comma
+commas-spaced : (last : ℕ) (s : List ℕ) → spaced last s ≡ true → 2 * commas s + cond (eqb last comma) 1 0 ≤ length s
+unfolding spaced commas
+commas-spaced last [] h = go (eqb last comma) h
   where
-    go : (t : Bool) → commas bs ≤ length bs → cond t 1 0 + commas bs ≤ suc (length bs)
-    go true ih = omega arith
-    go false ih = omega arith
+    go : (t : Bool) → not t ≡ true → 2 * 0 + cond t 1 0 ≤ 0
+    go true k = absurd (let z : _≡_ {A = ℕ} 0 1 = cc in omega arith)
+    go false k = omega arith
+commas-spaced last (b ∷ bs) h = go (eqb last comma) (eqb b space) (eqb b comma) refl refl (both-left _ _ h) (commas-spaced b bs (both-right (Bool·beq (eqb last comma) (eqb b space)) _ h))
+  where
+    go : (x y z : Bool) → eqb b space ≡ y → eqb b comma ≡ z → Bool·beq x y ≡ true → 2 * commas bs + cond z 1 0 ≤ length bs → 2 * (cond z 1 0 + commas bs) + cond x 1 0 ≤ suc (length bs)
+    go true true true e f k ih = absurd (omega (arith, eqb-true b space e, eqb-true b comma f))
+    go true true false e f k ih = omega arith
+    go true false z e f k ih = absurd (let q : _≡_ {A = ℕ} 0 1 = cc in omega arith)
+    go false true z e f k ih = absurd (let q : _≡_ {A = ℕ} 0 1 = cc in omega arith)
+    go false false true e f k ih = omega arith
+    go false false false e f k ih = omega arith
 
 module _ (s : List ℕ) (i count : ℕ) where
   pub commas-more : (one : ℕ) (b : Bool) → i < length s → b ≡ eqb (getD s i 0) comma → one ≡ cond b 1 0 → count + commas (drop i s) ≡ commas s → count + one + commas (drop (i + 1) s) ≡ commas s
@@ -159,15 +169,18 @@ module _ (v s : List ℕ) (e : s ≡ insideOf v) where
       go true = refl
       go false = length-map (cut comma s) unspaced ∙ pieces-counted s
 
-  few-in-value : length (elements v) ≤ length v
-  few-in-value = rw elements-counted (go (isEmpty s) refl)
+  few-in-value : listSpaced v ≡ true → 2 * length (elements v) ≤ length v
+  few-in-value h = rw elements-counted (go (isEmpty s) refl)
     where
       shorter : length s ≤ length v - 2
       shorter = rw e (inside-shorter v)
 
-      go : (b : Bool) → isEmpty s ≡ b → cond b 0 (commas s + 1) ≤ length v
+      spaces : 2 * commas s + 0 ≤ length s
+      spaces = commas-spaced 0 s (rw e (inside-spaced v h))
+
+      go : (b : Bool) → isEmpty s ≡ b → 2 * cond b 0 (commas s + 1) ≤ length v
       go true q = omega arith
-      go false q = omega (arith, commas-few s, shorter, eqb-false (length s) 0 q)
+      go false q = omega (arith, spaces, shorter, eqb-false (length s) 0 q)
 
   pub no-elements : length s ≡ 0 → 0 ≡ length (elements v)
   no-elements h = sym (elements-counted ∙ rw (eq-eqb (length s) 0 h) refl)
@@ -181,8 +194,8 @@ module _ (v s : List ℕ) (e : s ≡ insideOf v) where
   pub elements-fit : (n : ℕ) → n ≤ length s → length v * 1 < 2 ^ 63 → Fits w64 (n + 1)
   elements-fit n h l = let q : length s ≤ length v = rw e (inside-short v) in omega arith
 
--- no more elements than bytes
-pub elements-short : (v : List ℕ) → length (elements v) ≤ length v
+-- an element takes two bytes: no less stands between two commas, and the brackets are two
+pub elements-short : (v : List ℕ) → listSpaced v ≡ true → 2 * length (elements v) ≤ length v
 elements-short v = few-in-value v (insideOf v) refl
 
 -- ---- the smaller of two lines

@@ -136,7 +136,7 @@ fn word_lists(
     starts: &mut [usize],
 ) -> usize
     requires { ⌜ Sound (now t) (now list) n ⌝ }
-    requires { ⌜ (bytesTo (now list) n ≤ length (now words)) × (n < length (now starts)) ⌝ }
+    requires { ⌜ (bytesTo (now list) n ≤ 2 * length (now words)) × (n < length (now starts)) ⌝ }
     requires { ⌜ (namesAt + nameSize * maps .objects ≤ length (now «objects_ix»)) × (maps .objects ≤ mostDomains) ⌝ }
     requires { ⌜ (namesAt + nameSize * maps .subjects ≤ length (now «subjects_ix»)) × (maps .subjects ≤ mostDomains) ⌝ }
     requires { ⌜ (namesAt + nameSize * maps .functions ≤ length (now «functions_ix»)) × (maps .functions ≤ mostMembers) ⌝ }
@@ -173,7 +173,7 @@ pub fn index_names(
     starts: &mut [usize],
 ) -> Names
     requires { ⌜ Sound (now t) (now list) n ⌝ }
-    requires { ⌜ (bytesTo (now list) n ≤ length (now words)) × (n < length (now starts)) ⌝ }
+    requires { ⌜ (bytesTo (now list) n ≤ 2 * length (now words)) × (n < length (now starts)) ⌝ }
     requires { ⌜ overLimit (between (now t) (now list) 0 n) ≡ noLine ⌝ }
     requires { ⌜ Fresh (now t) (now «objects_ix») mostDomains ⌝ }
     requires { ⌜ Fresh (now t) (now «subjects_ix») mostDomains ⌝ }

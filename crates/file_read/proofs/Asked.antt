@@ -38,8 +38,11 @@ module _ (t : List ℕ) where
   fresh-members m = fresh mostMembers 8193 (omega arith) m
 
 -- room for the words of its names, and for where each field's start
-pub words-room : (t list : List ℕ) (n : ℕ) → Sound t list n → bytesTo list n ≤ length (replicate {A = ℕ} 65536 0)
-words-room t list n s = rw (length-replicate {A = ℕ} 65536 0) (omega (arith, s .fits, s .small))
+half-room : (bytes size room : ℕ) → room ≡ size → bytes ≤ 2 * size → bytes ≤ 2 * room
+half-room bytes size room e h = omega arith
+
+pub words-room : (t list : List ℕ) (n : ℕ) → Sound t list n → bytesTo list n ≤ 2 * length (replicate {A = ℕ} 32768 0)
+words-room t list n s = half-room (bytesTo list n) 32768 (length (replicate {A = ℕ} 32768 0)) (length-replicate {A = ℕ} 32768 0) (omega (arith, s .fits, s .small))
 
 pub starts-room : (n m : ℕ) → n ≤ mostFields → n < length (set (replicate 8193 0) multiplierAt m)
 starts-room n m h = rw (length-set, length-replicate) (omega arith)

@@ -1,4 +1,4 @@
--- The words of one field behind those of the others: they have room, since no value has more names than bytes.
+-- The words of one field behind those of the others: they have room, since each name takes two bytes of its value.
 use mathlib.Core.Path.{_≡_, refl, sym, ap, _∙_}
 use mathlib.Core.Bool.{true}
 use mathlib.Core.Logic.{⊎-elim}
@@ -12,7 +12,7 @@ use lib.ListN.{length, take, drop, set, length-append, length-map, length-take, 
 use lib.Seq.{getD-set-same, getD-set-other, take-at}
 use borrow.Rule.Slice.PartMut.{putMid, same-len-mid}
 use Rattle.paper.specs.Common.{allOf}
-use Rattle.file_fields.specs.Fields.{startIn, endIn, valueIn, fieldAt, between, bytesTo, wellSpaced}
+use Rattle.file_fields.specs.Fields.{startIn, endIn, valueIn, fieldAt, between, bytesTo, listSpaced, wellSpaced}
 use Rattle.file_fields.proofs.Between.{each-field, names-more, names-none}
 use Rattle.file_fields.proofs.Laws.{bytes-more, bytes-fewer}
 use Rattle.file_fields.proofs.Valued.{elements-short}
@@ -36,22 +36,22 @@ module _ (starts first : List ℕ) (long : length starts ≡ length (set first 0
 pub field-spaced : (t list : List ℕ) (n i : ℕ) → allOf wellSpaced (between t list 0 n) ≡ true → i < n → wellSpaced (fieldAt t list i) ≡ true
 field-spaced t list n i = each-field t list wellSpaced n i
 
--- ---- no more words than bytes
+-- ---- two bytes for each word
 
 module _ (k : Numbers) where
-  value-few : (x : Sought) (v : List ℕ) → length (wordsBy k x v) ≤ length v
+  value-few : (x : Sought) (v : List ℕ) → listSpaced v ≡ true → 2 * length (wordsBy k x v) ≤ length v
   unfolding wordsBy
-  value-few Subject v = omega arith
-  value-few Subjects v = rw length-map (elements-short v)
-  value-few Objects v = rw length-map (elements-short v)
-  value-few Elements v = rw length-map (elements-short v)
-  value-few Nothing v = omega arith
+  value-few Subject v h = omega arith
+  value-few Subjects v h = rw length-map (elements-short v h)
+  value-few Objects v h = rw length-map (elements-short v h)
+  value-few Elements v h = rw length-map (elements-short v h)
+  value-few Nothing v h = omega arith
 
   module _ (t list : List ℕ) where
-    field-few : (i : ℕ) → length (fieldWords k (fieldAt t list i)) ≤ endIn list i - startIn list i
-    unfolding fieldWords fieldAt
-    field-few i =
-        omega (arith, value-few (soughtAt (fieldAt t list i .place)) (valueIn t list i), length-take (endIn list i - startIn list i) (drop (startIn list i) t))
+    field-few : (i : ℕ) → wellSpaced (fieldAt t list i) ≡ true → 2 * length (fieldWords k (fieldAt t list i)) ≤ endIn list i - startIn list i
+    unfolding fieldWords fieldAt wellSpaced
+    field-few i h =
+        omega (arith, value-few (soughtAt (fieldAt t list i .place)) (valueIn t list i) h, length-take (endIn list i - startIn list i) (drop (startIn list i) t))
 
     -- one field more
     words-on : (i : ℕ) → length (wordsTo k t list (i + 1)) ≡ length (wordsTo k t list i) + length (fieldWords k (fieldAt t list i))
@@ -60,9 +60,11 @@ module _ (k : Numbers) where
     words-none : length (wordsTo k t list 0) ≡ 0
     words-none = ap length (names-none t list (fieldWords k))
 
-    words-few : (i : ℕ) → length (wordsTo k t list i) ≤ bytesTo list i
-    words-few zero = omega (arith, words-none)
-    words-few (suc i) = let e : suc i ≡ i + 1 = omega arith in rw e (omega (arith, words-few i, field-few i, words-on i, bytes-more list i))
+    words-few : (n : ℕ) → allOf wellSpaced (between t list 0 n) ≡ true → (i : ℕ) → i ≤ n → 2 * length (wordsTo k t list i) ≤ bytesTo list i
+    words-few n h zero l = omega (arith, words-none)
+    words-few n h (suc i) l =
+        let e : suc i ≡ i + 1 = omega arith in
+        rw e (omega (arith, words-few n h i (omega arith), field-few i (field-spaced t list n i h (omega arith)), words-on i, bytes-more list i))
 
     pub none-begun : 0 ≡ length (wordsTo k t list 0)
     none-begun = sym words-none
@@ -75,9 +77,9 @@ module _ (k : Numbers) where
     }
 
     module _ (n i w : ℕ) (words start : List ℕ) (below : i < n) (long : length words ≡ length start)
-        (e : w ≡ length (wordsTo k t list i)) (fits : bytesTo list n ≤ length start) where
+        (e : w ≡ length (wordsTo k t list i)) (fits : bytesTo list n ≤ 2 * length start) (spaced : allOf wellSpaced (between t list 0 n) ≡ true) where
       own-fits : w + length (fieldWords k (fieldAt t list i)) ≤ length words
-      own-fits = omega (arith, words-few (i + 1), words-on i, bytes-fewer list (i + 1) n (omega arith))
+      own-fits = omega (arith, words-few n spaced (i + 1) (omega arith), words-on i, bytes-fewer list (i + 1) n (omega arith))
 
       pub start-fits : w ≤ length words
       start-fits = omega (arith, own-fits)

@@ -25,8 +25,8 @@ ghost use Rattle.file_index.specs.Buckets.{hashOf, numbersIn};
 ghost use Rattle.file_words.specs.Hashed.{hashedAt};
 ghost use Rattle.file_words.specs.Words.{numbersBy, elementWordBy, wordBy, fieldWords, wordsIn, Worded};
 
-// Room for the words of any text that is not too long, and for where each field's start.
-pub const WORDS: usize = 65536;
+// Room for the words of any text that is not too long, one for two bytes, and for where each field's start.
+pub const WORDS: usize = 32768;
 
 pub const STARTS: usize = 8193;
 
@@ -228,7 +228,7 @@ pub fn look_up(
     requires { ⌜ (namesAt + nameSize * objects ≤ length (now «objects_ix»)) × (objects ≤ mostDomains) ⌝ }
     requires { ⌜ (namesAt + nameSize * subjects ≤ length (now «subjects_ix»)) × (subjects ≤ mostDomains) ⌝ }
     requires { ⌜ (namesAt + nameSize * functions ≤ length (now «functions_ix»)) × (functions ≤ mostMembers) ⌝ }
-    requires { ⌜ (bytesTo (now list) n ≤ length (now words)) × (n < length (now starts)) ⌝ }
+    requires { ⌜ (bytesTo (now list) n ≤ 2 * length (now words)) × (n < length (now starts)) ⌝ }
     ensures { λ _. ⌜ Worded (numbersBy (now (t .entry)) (now («objects_ix» .entry)) objects (now («subjects_ix» .entry)) subjects
         (now («functions_ix» .entry)) functions) (now (t .entry)) (now (list .entry)) n (now (words .exit)) (now (starts .exit)) ⌝ }
 {

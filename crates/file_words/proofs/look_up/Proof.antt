@@ -47,7 +47,7 @@ add-w c =
     let entry = c .before .before .before .before .before .before .before .before .before .before .before .before .before in
     let below = c .before .before .before .before .loop-test .taken in
     let wrote = c .before .before .field-words .ensures in
-    search (needs, sum-fits _ _ _ _ _ _ (turn .words) (entry .args .words .now) below (turn .inv .1) (turn .inv .3) (entry .pre .1 .1 .1 .1 .1 .0) _ (wrote .0))
+    search (needs, sum-fits _ _ _ _ _ _ (turn .words) (entry .args .words .now) below (turn .inv .1) (turn .inv .3) (entry .pre .1 .1 .1 .1 .1 .0) (entry .pre .1 .0) _ (wrote .0))
 
 add-i : tie.Need-add-i Inv-loop μ-loop
 add-i c = search needs
@@ -72,13 +72,14 @@ loop-again c =
     let start = entry .args .words .now in
     let first = entry .args .starts .now in
     let room = entry .pre .1 .1 .1 .1 .1 in
+    let spaced = entry .pre .1 .0 in
     let below = c .before .before .before .before .loop-test .taken in
     let wrote = c .before .before .field-words .ensures in (
       search needs,
-      words-long _ _ _ _ _ _ (turn .words) start below (inv .1) (inv .3) (room .0) _ (wrote .0) _ (wrote .1),
+      words-long _ _ _ _ _ _ (turn .words) start below (inv .1) (inv .3) (room .0) spaced _ (wrote .0) _ (wrote .1),
       search needs,
-      sum-on _ _ _ _ _ _ (turn .words) start below (inv .1) (inv .3) (room .0) _ (wrote .0),
-      worded-on _ _ _ _ _ _ (turn .words) start below (inv .1) (inv .3) (room .0) _ (wrote .0) _ (wrote .1)
+      sum-on _ _ _ _ _ _ (turn .words) start below (inv .1) (inv .3) (room .0) spaced _ (wrote .0),
+      worded-on _ _ _ _ _ _ (turn .words) start below (inv .1) (inv .3) (room .0) spaced _ (wrote .0) _ (wrote .1)
           _ (inv .4) first (starts-long (turn .starts) first (inv .2)) (room .1),
     )
 
