@@ -4,13 +4,11 @@ use native.Mathlib.Omega.{arith}
 use mathlib.Core.Path.{_≡_, refl, sym, _∙_}
 use mathlib.Core.Bool.{Bool, true, false, cond, not, _&&_, false≢true, and-false}
 use mathlib.Core.List.{List, [], map}
-use lib.Dec.{eqb}
 use lib.ListN.{length, take, drop, getD, length-drop}
 use lib.Seq.{getD-take, getD-drop, take-all}
 use borrow.Author.Tests.{not-false}
 use Rattle.paper.specs.declared.Access.{Access}
 use Rattle.paper.specs.declared.Verdict.{Verdict}
-use Rattle.paper.specs.Common.{countUp}
 use Rattle.paper.specs.Limits.{mostDomains}
 use Rattle.paper.specs.Policy.{Descriptor}
 use Rattle.paper.specs.Table.{setAt, everyWord, grantAt, entrySize, entryAt, descriptorAt, entryCount, word, isIn, grantIn, contextIn, descriptorIn, policyIn, subjectDomainCount, objectDomainCount}
