@@ -188,6 +188,7 @@ fn next_meeting(functions: &[u16], pattern: &[u16], i: usize, stack: &[u16], j: 
 
 // The pattern from place i on, behind an `all`, against the stack from place j on.
 // Once the elements up to the next `all` fit, no later place is tried: the frames between, that `all` can swallow.
+// A slice is handed on as its own whole part, `&s[..]`, which the compiler makes anew: handed on as it came, it would be copied through memory.
 fn walk(functions: &[u16], pattern: &[u16], i: usize, stack: &[u16], j: usize) -> bool
     requires { ⌜ (i ≤ length (now pattern)) × (j ≤ length (now stack)) ⌝ }
     ensures { λ r. ⌜ r ≡ matchesLater (now (functions .entry)) (now (pattern .entry)) i (now (stack .entry)) j ⌝ }

@@ -200,7 +200,7 @@ fn none_holds(t: &[u16], first: usize, n: usize, event: Event) -> bool
     true
 }
 
-// The same event as a value of its own: only so the compiler keeps the event in registers until then.
+// The same event as a value of its own: only so the compiler keeps the event in registers until then. `&t[..]` is the same for a slice.
 fn again(event: Event) -> Event
     ensures { λ r. ⌜ r ≡ event ⌝ }
 {
