@@ -1,5 +1,7 @@
 // The proved functions for C and Rust: include/dovetenon.h says what each answers, and crates/paper/specs/Answers.antt how
 // an answer is one number.
+#![tactic(auto)]
+
 pub mod map;
 
 ghost use Rattle.std.specs.Prelude.{◌≡◌};

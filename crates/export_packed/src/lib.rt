@@ -1,4 +1,6 @@
 // An answer as one number: crates/paper/specs/Answers.antt says how, include/dovetenon.h what each means.
+#![tactic(auto)]
+
 pub mod class;
 
 ghost use Rattle.std.specs.Prelude.{◌≡◌, ◌≤◌, ◌<◌};

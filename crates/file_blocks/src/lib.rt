@@ -1,4 +1,6 @@
 // The words of an entry and of a descriptor, written into the part of the table that holds them. Every part is zero before.
+#![tactic(auto)]
+
 ghost use Rattle.std.specs.Prelude.{◌≡◌, false, [], ◌+◌, ◌-◌, ◌*◌, ◌<◌, ◌≤◌, length, replicate};
 ghost use Rattle.paper.specs.Limits.{most_domains, most_elements, most_descriptors};
 ghost use Rattle.paper.specs.Lists.{elements};

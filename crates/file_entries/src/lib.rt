@@ -1,4 +1,6 @@
 // 10 and 11 over the list of a text's fields, entry by entry.
+#![tactic(auto)]
+
 ghost use Rattle.std.specs.Prelude.{◌≡◌, ◌+◌, ◌*◌, ◌/◌, ◌<◌, ◌≤◌, eqb, length, get_or};
 ghost use Rattle.paper.specs.Common.{bytes, any_of, same, up_to};
 ghost use Rattle.paper.specs.Limits.{most_entries};

@@ -1,4 +1,6 @@
 // The list of a text's fields, got by one walk over the text: every rule, the table and the filled text are made from it.
+#![tactic(auto)]
+
 pub mod values;
 
 ghost use Rattle.std.specs.Prelude.{◌≡◌, ◌+◌, ◌-◌, ◌*◌, ◌<◌, ◌≤◌, eqb, length};

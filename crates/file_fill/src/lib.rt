@@ -1,4 +1,6 @@
 // The filler: any bytes, and any bytes lent to be written. The reader's rules come first; the size is known before the first byte is written.
+#![tactic(auto)]
+
 ghost use Rattle.std.specs.Prelude.{◌≡◌, ◌*◌, ◌≤◌, length};
 ghost use Rattle.paper.specs.Limits.{text_bytes};
 ghost use Rattle.paper.specs.Rules.{ruled};

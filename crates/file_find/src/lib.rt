@@ -1,4 +1,6 @@
 // A name's number, by the list of what a text names. Any bytes and any words will do.
+#![tactic(auto)]
+
 ghost use Rattle.std.specs.Prelude.{◌≡◌, cond, ◌&&◌, ◌+◌, ◌*◌, ◌<◌, ◌≤◌, eqb, length, get_or};
 ghost use Rattle.paper.specs.Common.{same};
 ghost use Rattle.file_things.specs.Things.{thing_size};

@@ -1,6 +1,8 @@
 // Names of a text found through buckets. An index is one lent slice of numbers; a name in it is a stretch of the text, and the
 // names whose hashes fall together are a tree, through which each goes its way by its bytes, from the last to the first, two bits a turn.
 // Names that differ part at one of these turns: so no way is long, whatever the text. Links are names' numbers plus 1: 0 is none.
+#![tactic(auto)]
+
 pub mod layout;
 
 ghost use Rattle.std.specs.Prelude.{◌≡◌, ◌+◌, ◌*◌, ◌/◌, ◌<◌, ◌≤◌, length, drop};

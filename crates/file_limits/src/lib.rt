@@ -1,4 +1,6 @@
 // 6: a count over its limit, at the line that passes it.
+#![tactic(auto)]
+
 ghost use Rattle.std.specs.Prelude.{◌≡◌, ◌+◌, ◌*◌, ◌≤◌, length};
 ghost use Rattle.paper.specs.Limits.{most_members, most_descriptors};
 ghost use Rattle.paper.specs.Entries.{entries_of, line_of_entry};

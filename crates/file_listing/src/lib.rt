@@ -1,5 +1,7 @@
 // What a text names, listed: where each name stands, and what it is the name of. Any bytes, and any words lent to be written. How many words the
 // list takes is known before the first of them is written; each writer gets the part of the words behind what was written before it.
+#![tactic(auto)]
+
 ghost use Rattle.std.specs.Prelude.{◌≡◌, ◌≤◌, length};
 ghost use Rattle.paper.specs.Rules.{ruled};
 ghost use Rattle.file_fields.specs.Fields.{between};

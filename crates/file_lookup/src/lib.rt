@@ -1,4 +1,6 @@
 // Name lookup: any bytes, a map and a domain number to the very stretch of the bytes that holds the name. The reader's rules come first.
+#![tactic(auto)]
+
 ghost use Rattle.std.specs.Prelude.{◌≡◌, ◌+◌, ◌*◌, ◌≤◌, length};
 ghost use Rattle.paper.specs.Entries.{fields_at};
 ghost use Rattle.paper.specs.Rules.{ruled};

@@ -1,4 +1,6 @@
 // 7 and 8: names that stand twice, names that no map has, and the indexes of the maps that names are looked up in.
+#![tactic(auto)]
+
 pub mod indexes;
 pub mod lists;
 pub mod unknown;

@@ -1,4 +1,6 @@
 // The reader: any bytes into any lent table. The list of fields is got by one walk; every rule and the table are made from it.
+#![tactic(auto)]
+
 ghost use Rattle.std.specs.Prelude.{◌≡◌, ◌++◌, ◌≤◌, length, take, drop, replicate};
 ghost use Rattle.paper.specs.declared.Reading.TheVariants.{Unread};
 ghost use Rattle.paper.specs.Limits.{text_bytes, table_words};

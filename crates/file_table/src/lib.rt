@@ -1,4 +1,6 @@
 // The words of a whole file, each block written through the lent part of the table that holds it.
+#![tactic(auto)]
+
 ghost use Rattle.std.specs.Prelude.{◌≡◌, true, [], ◌∷◌, ◌++◌, ◌+◌, ◌*◌, ◌≤◌, length, take, drop, replicate};
 ghost use Rattle.paper.specs.Common.{all_of};
 ghost use Rattle.paper.specs.Limits.{most_domains, most_members, most_entries, table_words};

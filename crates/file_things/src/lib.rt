@@ -1,4 +1,6 @@
 // The things that a field names, and where their names stand: how many words they take, and these words written at the front of what is lent.
+#![tactic(auto)]
+
 pub mod kind;
 
 ghost use Rattle.std.specs.Prelude.{◌≡◌, true, ◌+◌, ◌*◌, ◌<◌, ◌≤◌, length};

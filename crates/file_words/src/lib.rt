@@ -1,4 +1,6 @@
 // The word of each name that an entry's lists and patterns have, looked up once: 7, 8 and the table go over the words.
+#![tactic(auto)]
+
 pub mod places;
 
 ghost use Rattle.std.specs.Prelude.{◌≡◌, true, ◌++◌, map, ◌+◌, ◌*◌, ◌<◌, ◌≤◌, length, drop};

@@ -1,5 +1,7 @@
 // Reads a policy from standard input and writes the filled text, or the refusal's number and line. Crate `fill_output` makes what is written of
 // what was read; here the bytes only come and go.
+#![tactic(auto)]
+
 ghost use Rattle.fill.specs.Input.{Within};
 
 use fill_output::output;

@@ -1,4 +1,6 @@
 // What the program `fill` writes of the bytes that it read: the filled text, or the refusal's number and line.
+#![tactic(auto)]
+
 ghost use Rattle.std.specs.Prelude.{◌≡◌, [], ◌∷◌, ◌++◌};
 ghost use Rattle.paper.specs.Text.{line_feed};
 ghost use Rattle.paper.specs.Program.{decimal, refusal_line, program_size, program_leaves};

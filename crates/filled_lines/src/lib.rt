@@ -1,5 +1,7 @@
 // A line of the filled text written at the front of what is lent: each function answers how far it wrote. Whoever writes on lends the part
 // from there.
+#![tactic(auto)]
+
 ghost use Rattle.std.specs.Prelude.{[], ◌∷◌, ◌++◌};
 ghost use Rattle.paper.specs.Text.{line_feed};
 ghost use Rattle.paper.specs.Listing.{key_at};

@@ -1,5 +1,7 @@
 // The parts of an entry of the filled text written, contexts, items and accesses: each function writes the text that the paper or
 // specs/Parts.antt gives its name at the front of what it is lent, and answers how far it wrote.
+#![tactic(auto)]
+
 ghost use Rattle.std.specs.Prelude.{◌≡◌, ◌*◌, ◌≤◌, length};
 ghost use mathlib.Core.List.{◌++◌, flat_map};
 ghost use Rattle.paper.specs.Entries.{default_at, items_of};

@@ -1,4 +1,6 @@
 // How long the filled text is, measured over the list of fields: each function is as long as the text that the paper gives that name.
+#![tactic(auto)]
+
 ghost use Rattle.std.specs.Prelude.{◌≡◌, ◌+◌, ◌-◌, ◌*◌, ◌≤◌, length};
 ghost use mathlib.Core.List.{flat_map};
 ghost use Rattle.paper.specs.Limits.{text_bytes};

@@ -1,5 +1,7 @@
 // The filled text written: each function writes the text that the paper or specs/Parts.antt gives its name at the front of what it is
 // lent, and answers how far it wrote. Whoever writes on lends the part from there.
+#![tactic(auto)]
+
 ghost use mathlib.Core.List.{flat_map};
 ghost use Rattle.std.specs.Prelude.{◌+◌, ◌*◌, ◌≤◌, length};
 ghost use Rattle.paper.specs.Entries.{entries_of};

@@ -1,5 +1,7 @@
 // The judge: a table and an event to a verdict. Every function here answers for any words, well formed or not, by the policy that
 // they hold; `judge` refuses a table that is not well formed before it asks.
+#![tactic(auto)]
+
 ghost use Rattle.std.specs.Prelude.{◌≡◌, ◌&&◌, ◌≤◌, eqb, leb, length};
 ghost use Rattle.paper.specs.Table.{policy_in};
 ghost use Rattle.paper.specs.Match.{top};

@@ -1,4 +1,6 @@
 // The verdict of the entries, in two passes: the first entry that matches, and from it on the first that grants as well.
+#![tactic(auto)]
+
 ghost use Rattle.std.specs.Prelude.{◌≡◌, cond, true, false, ◌&&◌, ◌+◌, ◌*◌, ◌≤◌};
 ghost use Rattle.paper.specs.Table.{returns_at, entry_at, entry_count, read_count, write_count, function_domains_in, policy_in, entry_in, grant_in, first_descriptor};
 ghost use Rattle.paper.specs.Match.{Moment, grants};

@@ -1,5 +1,7 @@
 // Whether an entry of a table matches an event, and whether a grant or a descriptor of it grants the access. Every function here answers
 // for any words, well formed or not, by the policy that they hold.
+#![tactic(auto)]
+
 ghost use Rattle.std.specs.Prelude.{◌≡◌, true, [], map, ◌+◌, ◌≤◌};
 ghost use Rattle.paper.specs.Common.{count_up};
 ghost use Rattle.paper.specs.Table.{entry_at, descriptor_at, function_domains_in, policy_in, entry_in, context_in, grant_in, descriptor_in, sort_in};

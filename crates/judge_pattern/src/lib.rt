@@ -1,4 +1,6 @@
 // Patterns of elements (`paper::element`) against stacks of function numbers, base first; functions are given by their domains.
+#![tactic(auto)]
+
 ghost use Rattle.std.specs.Prelude.{◌≡◌, ◌||◌, map, ◌<◌, ◌≤◌, eqb, length, get_or};
 ghost use Rattle.paper.specs.Common.{all_of};
 ghost use Rattle.paper.specs.Match.{matches, is_all};

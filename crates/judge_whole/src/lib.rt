@@ -1,5 +1,7 @@
 // The verdict of the entries once more, for a table that has all their words, as every well-formed one has: here no word is asked whether
 // it is there. Of any other table `judge_entries` tells.
+#![tactic(auto)]
+
 ghost use Rattle.std.specs.Prelude.{◌≡◌, true, false, ◌&&◌, [], ℕ, ◌+◌, ◌*◌, ◌<◌, ◌≤◌, length};
 ghost use Rattle.paper.specs.Limits.{most_domains};
 ghost use Rattle.paper.specs.Table.{word, namespace_at, subject_at, pattern_words_in, set_size, returns_at, entry_at, descriptor_at, entry_count, subject_domain_count, object_domain_count};

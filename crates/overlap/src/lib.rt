@@ -1,4 +1,6 @@
 // The overlap report: the first pair of entries that one moment can match.
+#![tactic(auto)]
+
 ghost use Rattle.std.specs.Prelude.{◌≡◌, ◌+◌, ◌<◌, ◌≤◌};
 ghost use Rattle.paper.specs.Limits.{most_entries, witness_words};
 ghost use Rattle.paper.specs.Table.{subject_at, uid_at, entry_at, word, sort_in, entry_count, entry_in, pattern_words_in};

@@ -1,4 +1,6 @@
 // What a cell of two patterns is made of: their first elements, and stacks as chains of cells, of which the better is told.
+#![tactic(auto)]
+
 ghost use Rattle.std.specs.Prelude.{◌≡◌, ◌&&◌, cond, List, [], ◌∷◌, ℕ, min, ◌+◌, ◌/◌, ◌%◌, ◌≤◌, ◌<◌, leb, length};
 ghost use Rattle.paper.specs.Limits.{most_members};
 ghost use Rattle.paper.specs.Match.{lies_in, matches, is_all};

@@ -1,4 +1,6 @@
 // The best stack that two patterns both match with its top in a domain: of the shortest the lowest function numbers from the base up.
+#![tactic(auto)]
+
 ghost use Rattle.std.specs.Prelude.{◌≡◌, true, [], ◌++◌, map, ℕ, ◌+◌, ◌≤◌, ◌<◌, length, drop, get_or};
 ghost use Rattle.paper.specs.Limits.{most_elements, witness_words};
 ghost use Rattle.paper.specs.Table.{element_in};

@@ -1,5 +1,7 @@
 // The types that the definitions and the code share: what a field takes, what an event names, and the answers that document 01
 // gives; domain sets are functions of `Operation`. The meaning stands in specs/.
+#![tactic(auto)]
+
 pub mod element;
 pub mod limit;
 pub mod refusal;

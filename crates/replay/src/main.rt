@@ -1,5 +1,7 @@
 // Judges the trials of document 01 and tells each verdict in words; then replays the stored cases and tells how many answers
 // differ from those stored. What the bytes of the files mean: data/README.md.
+#![tactic(auto)]
+
 use export_packed::class;
 
 // Standard output.

@@ -1,4 +1,6 @@
 // The lent table: any word of it, any part of it. Words past the end read as 0, so that every function here answers for any words.
+#![tactic(auto)]
+
 pub mod layout;
 
 ghost use Rattle.std.specs.Prelude.{◌≡◌, ◌+◌, ◌*◌, ◌<◌, ◌≤◌, take, drop};

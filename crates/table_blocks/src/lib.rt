@@ -1,4 +1,6 @@
 // Tests of one block of a table, for any words: members, a context, a grant, an entry, a descriptor.
+#![tactic(auto)]
+
 ghost use Rattle.std.specs.Prelude.{◌≡◌, ◌+◌, ◌≤◌};
 ghost use Rattle.paper.specs.Common.{up_to};
 ghost use Rattle.paper.specs.Limits.{most_members, most_elements};

@@ -1,4 +1,6 @@
 // The test that a table is well formed, for any words.
+#![tactic(auto)]
+
 ghost use Rattle.std.specs.Prelude.{◌≡◌, ◌+◌, ◌<◌, ◌≤◌, length};
 ghost use Rattle.paper.specs.Common.{up_to};
 ghost use Rattle.paper.specs.Limits.{most_entries, most_descriptors, table_words};

@@ -1,4 +1,6 @@
 // Stretches of bytes: equal ones, the way to a byte, and the classes of bytes that scalars are made of.
+#![tactic(auto)]
+
 pub mod byte;
 
 ghost use Rattle.std.specs.Prelude.{◌≡◌, ◌+◌, ◌-◌, ◌≤◌, length, take, drop};

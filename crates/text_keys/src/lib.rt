@@ -1,4 +1,6 @@
 // The listing: the row of each place (rows.rt), and which of its keys a line begins with.
+#![tactic(auto)]
+
 pub mod rows;
 
 ghost use Rattle.std.specs.Prelude.{◌≡◌, not, ◌&&◌, ◌||◌, ◌+◌, ◌%◌, ◌≤◌, eqb, length, take};

@@ -1,5 +1,7 @@
 // Lines: where one ends and the next begins, its column, whether it is skipped; and the line of the first bad byte.
 // How a line ends is known here and nowhere else.
+#![tactic(auto)]
+
 ghost use Rattle.std.specs.Prelude.{◌≡◌, cond, not, ◌+◌, ◌^◌, ◌<◌, ◌≤◌, eqb, length, get_or, drop};
 ghost use Rattle.paper.specs.Common.{all_of};
 ghost use Rattle.paper.specs.Text.{line_feed, may_stand, bad_byte_line, column, skipped};

@@ -1,4 +1,6 @@
 // Values: lists, the walk over their elements, and what is wrong with the value of a field.
+#![tactic(auto)]
+
 ghost use Rattle.std.specs.Prelude.{◌≡◌, true, cond, ◌&&◌, ◌+◌, ◌-◌, ◌<◌, ◌≤◌, eqb, leb, length, get_or, drop};
 ghost use Rattle.std.specs.Bool.{beq};
 ghost use Rattle.paper.specs.Common.{all_of, is};

@@ -1,4 +1,6 @@
 // Places of a list by the names that begin there: which of two is lower, whether all ascend, and whether each name of the list is among them.
+#![tactic(auto)]
+
 ghost use Rattle.std.specs.Prelude.{◌≡◌, true, false, [], ◌+◌, ◌≤◌, length, get_or};
 ghost use Rattle.paper.specs.Text.{comma};
 ghost use Rattle.paper.specs.Lists.{spaced, elements_in};

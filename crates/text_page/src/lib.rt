@@ -1,4 +1,6 @@
 // The page: the walk from field to field, and what a text is refused with up to its page.
+#![tactic(auto)]
+
 pub mod step;
 
 ghost use Rattle.std.specs.Prelude.{◌≡◌, ◌+◌, ◌≤◌, length};

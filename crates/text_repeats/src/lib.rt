@@ -1,6 +1,8 @@
 // Whether a name stands twice in a list. For n names the time is that of a sort, n log n, whatever the names are.
 // The places where the names begin are sorted by name. Where the names then ascend, and every name begins at one of the places, no two are the same.
 // That the sort sorts is not proved, and need not be: both are tested, and where a test fails the names are looked for behind themselves.
+#![tactic(auto)]
+
 ghost use Rattle.std.specs.Prelude.{◌≡◌, true, false, ◌&&◌, [], ◌+◌, ◌-◌, ◌<◌, ◌≤◌, leb, length, take, drop};
 ghost use Rattle.paper.specs.Common.{among};
 ghost use Rattle.paper.specs.Limits.{text_bytes};

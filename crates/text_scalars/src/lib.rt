@@ -1,4 +1,6 @@
 // Scalars: names, users and groups, identifiers. Tests that stand beside each other are joined by `&` and `|`, as the definitions join them.
+#![tactic(auto)]
+
 ghost use Rattle.std.specs.Prelude.{◌≡◌, [], ◌∷◌, length};
 ghost use Rattle.paper.specs.Common.{within, cut};
 ghost use Rattle.paper.specs.Text.{bar};
