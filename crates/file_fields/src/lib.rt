@@ -32,7 +32,7 @@ const END_AT: usize = 3;
 pub const LIST_SIZE: usize = 32768;
 
 // How many fields the list got, or the refusal of the text.
-#[derive(Drop)]
+#[derive(Clone, Copy)]
 pub enum Found {
     Listed(usize),
     Refused { number: u16, line: usize },

@@ -17,7 +17,7 @@ use text_keys::rows;
 use text_lines::NO_LINE;
 
 // What is counted at a place: its fields, or the elements of its lists.
-#[derive(Drop)]
+#[derive(Clone, Copy)]
 pub enum Count {
     Fields,
     Members,

@@ -19,7 +19,7 @@ use file_things::{list_words, put_field};
 use paper::Reading;
 
 // How many words the list takes, or the refusal of the text.
-#[derive(Drop)]
+#[derive(Clone, Copy)]
 pub enum Listing {
     Listed { words: u32 },
     Unlisted { number: u16, line: u32 },

@@ -18,7 +18,7 @@ use paper::{Map, Reading};
 use text_keys::rows;
 
 // Where a name stands in a text; 0 and 0 where there is none: an empty stretch at the front.
-#[derive(Drop)]
+#[derive(Clone, Copy)]
 pub struct Place {
     pub start: usize,
     pub end: usize,

@@ -13,21 +13,21 @@ use text_lines::NO_LINE;
 use text_lists::Element;
 
 // What a field names: a domain, where it stands at one of two places; the members of a list, where it stands at a place.
-#[derive(Drop)]
+#[derive(Clone, Copy)]
 pub enum Naming {
     Domains { one: usize, other: usize },
     Members { place: usize },
 }
 
 // How many names there are once those of a field are in, or that one of them was there already.
-#[derive(Drop)]
+#[derive(Clone, Copy)]
 pub enum Entered {
     Now(usize),
     Twice,
 }
 
 // How many names went in, and the line at which one was there already.
-#[derive(Drop)]
+#[derive(Clone, Copy)]
 pub struct Indexed {
     pub names: usize,
     pub twice: usize,

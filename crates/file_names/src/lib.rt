@@ -31,7 +31,7 @@ const DOMAINS_SIZE: usize = layout::NAMES_AT + layout::NAME_SIZE * limit::DOMAIN
 pub const MEMBERS_SIZE: usize = layout::NAMES_AT + layout::NAME_SIZE * limit::MEMBERS;
 
 // How many names each map has, and the line at which one stands twice.
-#[derive(Drop)]
+#[derive(Clone, Copy)]
 pub struct Names {
     pub objects: usize,
     pub subjects: usize,

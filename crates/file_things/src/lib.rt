@@ -20,7 +20,7 @@ use text_lists::Element;
 pub const THING_SIZE: usize = 4;
 
 // What a field names: its value is a name, each element of its list is one, it begins an entry, or it names nothing.
-#[derive(Drop)]
+#[derive(Clone, Copy)]
 pub enum Naming {
     One { kind: u32 },
     Each { kind: u32 },

@@ -27,7 +27,7 @@ pub const WORDS: usize = 32768;
 pub const STARTS: usize = 8193;
 
 // The element that begins at a place, with its hash; `NoneLeft` where none begins.
-#[derive(Drop)]
+#[derive(Clone, Copy)]
 pub enum Hashed {
     Found {
         end: usize,

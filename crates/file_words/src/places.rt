@@ -7,7 +7,7 @@ use file_fields::is_call_context;
 use text_keys::rows;
 
 // At a place stands one subject domain, a list of subject or object domains, or the elements of a pattern.
-#[derive(Drop)]
+#[derive(Clone, Copy)]
 pub enum Sought {
     Subject,
     Subjects,

@@ -14,7 +14,7 @@ use paper::{Access, Operation};
 use table::layout;
 
 // The uid, gid and namespace of a moment.
-#[derive(Drop)]
+#[derive(Clone, Copy)]
 pub struct Ids {
     pub uid: u32,
     pub gid: u32,
@@ -22,7 +22,7 @@ pub struct Ids {
 }
 
 // An event besides its stacks: the access, the domains of the running function and of the target, and the numbers of both moments.
-#[derive(Drop)]
+#[derive(Clone, Copy)]
 pub struct Event {
     pub access: Access,
     pub subject: u16,

@@ -26,7 +26,7 @@ fn meets(functions: &[u16], one: u16, frame: u16) -> bool
 }
 
 // The words of the elements besides `all` that can meet a frame.
-#[derive(Drop)]
+#[derive(Clone, Copy)]
 pub struct Words {
     pub function: usize,
     pub domain: usize,
@@ -78,7 +78,7 @@ pub fn ends_may_meet(pattern: &[u16], base: Words, top: Words) -> bool
 }
 
 // What comes of holding the elements behind the last `all` against the top frames.
-#[derive(Drop)]
+#[derive(Clone, Copy)]
 enum Top {
     // one of them has no frame, or does not meet it
     Differs,
@@ -113,7 +113,7 @@ fn from_top(functions: &[u16], pattern: &[u16], stack: &[u16]) -> Top
 }
 
 // What comes of reading an element and a frame at a time, up to an `all`.
-#[derive(Drop)]
+#[derive(Clone, Copy)]
 enum Run {
     // both are read to their end
     Match,

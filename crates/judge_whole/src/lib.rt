@@ -223,7 +223,7 @@ fn may_grant(t: &[u16], k: usize, first: usize, reads: usize, writes: usize, eve
 }
 
 // An entry, and how many descriptors those before it have.
-#[derive(Drop)]
+#[derive(Clone, Copy)]
 struct Place {
     entry: usize,
     first: usize,

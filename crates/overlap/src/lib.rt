@@ -14,7 +14,7 @@ ghost use Rattle.overlap.specs.Told.{Ready, NoneBefore, FirstAfter, FirstOfAll};
 use paper::{Report, limit, refusal};
 use table::layout;
 
-#[derive(Drop)]
+#[derive(Clone, Copy)]
 enum Found {
     Nothing,
     At { higher: usize, depth: usize },

@@ -62,7 +62,7 @@ pub fn lowest_functions(functions: &[u16]) -> [u16; limit::DOMAINS]
 }
 
 // The base frame that elements ask for, where there is one.
-#[derive(Drop)]
+#[derive(Clone, Copy)]
 pub enum Common {
     At { function: u16 },
     Nothing,
@@ -160,7 +160,7 @@ pub fn common_frame(a: u16, b: u16, functions: &[u16], lows: &[u16]) -> Common
 }
 
 // The first elements of two patterns, by the base frame that they ask for; alone: it may be the only frame.
-#[derive(Drop)]
+#[derive(Clone, Copy)]
 pub enum Firsts {
     BothAll { alone: bool },
     OneAll { function: u16, alone: bool },
@@ -245,7 +245,7 @@ pub fn firsts_at(
 }
 
 // A stack of so many frames: its base, and the cell at which the rest of it begins.
-#[derive(Drop)]
+#[derive(Clone, Copy)]
 pub struct Chain {
     pub frames: usize,
     pub base: u16,

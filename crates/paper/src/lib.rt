@@ -11,7 +11,7 @@ ghost use Rattle.std.specs.Prelude.{◌≡◌};
 ghost use Rattle.paper.specs.Table.{is_in, with_domain};
 
 // What a sort of object says of a part of its identifiers.
-#[derive(Drop)]
+#[derive(Clone, Copy)]
 pub enum Need {
     Needed,
     Absent,
@@ -19,14 +19,14 @@ pub enum Need {
 }
 
 // The two kinds of identifier.
-#[derive(Drop)]
+#[derive(Clone, Copy)]
 pub enum Kind {
     Subject,
     Object,
 }
 
 // The scalars that a field or an element of a list can be.
-#[derive(Drop)]
+#[derive(Clone, Copy)]
 pub enum Scalar {
     DomainName,
     UidValue,
@@ -37,7 +37,7 @@ pub enum Scalar {
 }
 
 // What a field takes. `SomeOf` is a list that is not `[]`.
-#[derive(Drop)]
+#[derive(Clone, Copy)]
 pub enum Value {
     Keys,
     NoneOrItems,
@@ -50,14 +50,14 @@ pub enum Value {
 }
 
 // A function and an object are both numbered from 0 and are kept apart.
-#[derive(Drop)]
+#[derive(Clone, Copy)]
 pub struct FunctionNumber(pub u16);
 
-#[derive(Drop)]
+#[derive(Clone, Copy)]
 pub struct ObjectNumber(pub u16);
 
 // An operation, by its code.
-#[derive(Drop)]
+#[derive(Clone, Copy)]
 pub struct Operation(pub u16);
 
 impl Operation {
@@ -97,7 +97,7 @@ impl Operation {
 }
 
 // An operation with its target: a read or a write is of an object, a call or a return of a function.
-#[derive(Drop)]
+#[derive(Clone, Copy)]
 pub enum Access {
     Read(ObjectNumber),
     Write(ObjectNumber),
@@ -106,21 +106,21 @@ pub enum Access {
 }
 
 // The reader's answer.
-#[derive(Drop)]
+#[derive(Clone, Copy)]
 pub enum Reading {
     Accepted,
     Unread { number: u16, line: u32 },
 }
 
 // The filler's answer: how many bytes the filled text has, or why there is none.
-#[derive(Drop)]
+#[derive(Clone, Copy)]
 pub enum Filling {
     Written { size: u32 },
     Unfilled { number: u16, line: u32 },
 }
 
 // The judge's answer.
-#[derive(Drop)]
+#[derive(Clone, Copy)]
 pub enum Verdict {
     Inside,
     Granted { entry: u16 },
@@ -129,7 +129,7 @@ pub enum Verdict {
 }
 
 // The overlap report's answer.
-#[derive(Drop)]
+#[derive(Clone, Copy)]
 pub enum Report {
     Clear,
     Clash {
@@ -146,7 +146,7 @@ pub enum Report {
 }
 
 // Which map a name is looked up in.
-#[derive(Drop)]
+#[derive(Clone, Copy)]
 pub enum Map {
     Objects,
     Subjects,

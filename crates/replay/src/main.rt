@@ -94,7 +94,7 @@ fn read_table(file: &[u8], at: &mut usize, table: &mut [u16]) -> usize {
 }
 
 // An event but for its stacks.
-#[derive(Drop)]
+#[derive(Clone, Copy)]
 struct Event {
     operation: u16,
     target: u16,
@@ -159,7 +159,7 @@ fn judged(file: &[u8], at: &mut usize, table: &[u16]) -> u32 {
 }
 
 // How many cases there were, and how many answers differ from the one stored.
-#[derive(Drop)]
+#[derive(Clone, Copy)]
 struct Tally {
     cases: u32,
     differ: u32,
@@ -443,7 +443,7 @@ fn replay_finding(file: &[u8], at: &mut usize, tally: Tally) -> Tally {
 }
 
 // What the cases of a file are.
-#[derive(Drop)]
+#[derive(Clone, Copy)]
 enum Cases {
     Trials,
     Events,

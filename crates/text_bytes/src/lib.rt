@@ -11,7 +11,7 @@ ghost use Rattle.text_bytes.specs.Classes.{is_of, part_byte};
 ghost use Rattle.text_bytes.specs.Marks.{Marks, run};
 
 // The classes of bytes that a stretch can be asked to keep to.
-#[derive(Drop)]
+#[derive(Clone, Copy)]
 pub enum Class {
     NameByte,
     IdentifierByte,

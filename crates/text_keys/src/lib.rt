@@ -24,7 +24,7 @@ const IN_PRINCIPAL: usize = 4;
 const IN_CONTEXT: usize = 6;
 
 // Whether a line begins with a key; yes with how long the key is.
-#[derive(Drop)]
+#[derive(Clone, Copy)]
 enum Answer {
     No,
     Yes(usize),
@@ -214,7 +214,7 @@ fn alongside(key: Key, l: &[u8]) -> bool
 }
 
 // A place, and how long its key is.
-#[derive(Drop)]
+#[derive(Clone, Copy)]
 pub struct Placed {
     pub place: usize,
     pub length: usize,

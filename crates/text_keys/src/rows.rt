@@ -144,7 +144,7 @@ const WRITE_KEYS: usize = WRITE_CALL_CONTEXT
     + THEN * (WRITE_UID + THEN * (WRITE_GID + THEN * WRITE_NAMESPACE));
 
 // The keys of the listing; `key_asked` has their texts.
-#[derive(Drop)]
+#[derive(Clone, Copy)]
 pub enum Key {
     Nothing,
     ObjectMap,
@@ -170,7 +170,7 @@ pub enum Key {
 
 // A row of the listing: its key, what its field takes, the places that its block may begin with, those that may follow, and whether the
 // text may end with it.
-#[derive(Drop)]
+#[derive(Clone, Copy)]
 pub struct Row {
     pub key: Key,
     pub value: Value,

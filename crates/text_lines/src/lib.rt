@@ -13,7 +13,7 @@ ghost use Rattle.text_lines.specs.Splits.{Splits, four_go_on, eight_go_on, sixte
 use text_bytes::byte;
 
 // A line that begins at some place of a text: its bytes end at `end`, the next line begins at `next`.
-#[derive(Drop)]
+#[derive(Clone, Copy)]
 pub struct LineAt {
     pub end: usize,
     pub next: usize,

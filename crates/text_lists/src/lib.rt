@@ -24,7 +24,7 @@ use text_bytes::{Class, byte};
 pub const NO_FAULT: u16 = 0;
 
 // The element that begins at a place: it ends at `end`, and the next begins at `next`. `NoneLeft` where none begins.
-#[derive(Drop)]
+#[derive(Clone, Copy)]
 pub enum Element {
     Found { end: usize, next: usize },
     NoneLeft,
@@ -85,7 +85,7 @@ pub fn element_at(s: &[u8], at: usize) -> Element
 }
 
 // An element that is the scalar asked for, and where it ends; or one that is not.
-#[derive(Drop)]
+#[derive(Clone, Copy)]
 enum Read {
     Ends(usize),
     Wrong,

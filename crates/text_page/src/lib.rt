@@ -15,7 +15,7 @@ use paper::{Reading, limit, refusal};
 use text_keys::rows;
 
 // Where the walk stands: the place of a byte, the line that begins there, and the state after the lines before it.
-#[derive(Drop)]
+#[derive(Clone, Copy)]
 pub struct Cursor {
     pub at: usize,
     pub line: usize,
@@ -24,7 +24,7 @@ pub struct Cursor {
 
 // The next field, with its value between `start` and `end`, and where the line behind it begins; or the end; or a refusal. `bare` stands
 // between the two: numbers that are written one by one, and then read as one of sixteen bytes, have to be waited for.
-#[derive(Drop)]
+#[derive(Clone, Copy)]
 pub enum Next {
     Field {
         line: usize,

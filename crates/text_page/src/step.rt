@@ -9,7 +9,7 @@ use text_bytes::byte;
 use text_keys::{Placed, rows};
 
 // Between two lines: the place and line of the last field, and whether it was bare.
-#[derive(Drop)]
+#[derive(Clone, Copy)]
 pub struct State {
     pub place: usize,
     pub bare: bool,
@@ -17,7 +17,7 @@ pub struct State {
 }
 
 // What a line does. A field's value starts so many bytes behind the start of its line.
-#[derive(Drop)]
+#[derive(Clone, Copy)]
 pub enum Step {
     Skipped,
     Field {

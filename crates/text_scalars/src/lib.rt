@@ -14,7 +14,7 @@ use paper::{Kind, Need, Scalar, limit};
 use text_bytes::{Class, byte};
 
 // The sorts of object, by the first part of an identifier; `Unknown` where it names none.
-#[derive(Drop)]
+#[derive(Clone, Copy)]
 enum ObjectSort {
     Global,
     Io,
