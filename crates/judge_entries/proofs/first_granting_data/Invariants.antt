@@ -1,0 +1,15 @@
+-- The loop: the entries that are left decide as those from the first match on do.
+use Rattle.std.proofs.Common.{◌≡◌, ◌≤◌, ◌*◌, ◌-◌}
+use Rattle.table.specs.Reach.{word_values}
+use Rattle.paper.specs.Table.{entry_count, first_descriptor}
+use Rattle.judge_match.specs.Moments.{allocation_of}
+use Rattle.judge_entries.proofs.Passes.{left}
+use Rattle.judge_entries.proofs.first_granting_data.Given as goal
+
+abbrev pub invariant-loop-k : goal.invariant-loop-k
+invariant-loop-k l = (l.first ≡ first_descriptor l.t l.k)
+    × (l.first ≤ 2 * word_values * l.k)
+    × (left l.t l.stack l.event (allocation_of l.allocation l.event) l.k ≡ left l.t l.stack l.event (allocation_of l.allocation l.event) l.from)
+
+abbrev pub decreases-loop-k : goal.decreases-loop-k
+decreases-loop-k l = entry_count l.t - l.k

@@ -1,0 +1,13 @@
+-- The loop: what is left of the spaces is counted with those passed.
+use Rattle.std.proofs.Common.{rules}
+use Rattle.text_lines.proofs.Laws.{column_again, column_stops, column_ends}
+use Rattle.text_lines.proofs.column.Goals as goal
+
+pub returns-then-l-i-ne-SPACE : goal.returns-then-l-i-ne-SPACE
+returns-then-l-i-ne-SPACE c = search (rules, column_stops)
+
+pub loop-i-preserved : goal.loop-i-preserved
+loop-i-preserved c = search (rules, column_again)
+
+pub returns : goal.returns
+returns c = search (rules, column_ends)
