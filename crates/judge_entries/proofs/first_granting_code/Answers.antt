@@ -1,7 +1,8 @@
 -- The loop: the entries that are left decide as those from the first match on do, whatever the allocation.
-use Rattle.std.proofs.Common.{⊎_elim, rules}
+use Rattle.std.proofs.Common.{rules}
 use Rattle.judge_entries.proofs.Passes.{granted_has_it, code_ends, code_not_granted, code_not_matched, code_allowed}
 use Rattle.judge_entries.proofs.first_granting_code.Goals as goal
+use Rattle.judge_entries.proofs.first_granting_code.Goals.{else-code_granted, then-code_granted+else-moment_fits}
 
 pub moment_fits-requires-clause-event_value : goal.moment_fits-requires-clause-event_value
 moment_fits-requires-clause-event_value c = search (rules, granted_has_it)
@@ -10,7 +11,7 @@ pub returns-then-moment_fits : goal.returns-then-moment_fits
 returns-then-moment_fits c = search (rules, code_allowed)
 
 pub loop-k-preserved : goal.loop-k-preserved
-loop-k-preserved c = ⊎_elim (λ w. search (rules, code_not_matched)) (λ w. search (rules, code_not_granted)) c.if-code_granted.branch
+loop-k-preserved c = elim c.if-code_granted.branch [ then-code_granted+else-moment_fits w ↦ search (rules, code_not_matched) | else-code_granted w ↦ search (rules, code_not_granted) ]
 
 pub returns : goal.returns
 returns c = search (rules, code_ends)

@@ -1,0 +1,13 @@
+-- The loop: the sum of the counts so far.
+use Rattle.std.proofs.Common.{rules}
+use Rattle.table.proofs.Laws.{sum_none, sum_ends, sum_again}
+use Rattle.judge_whole.proofs.first_descriptor.Goals as goal
+
+pub loop-k-init : goal.loop-k-init
+loop-k-init c = search (rules, sum_none)
+
+pub loop-k-preserved : goal.loop-k-preserved
+loop-k-preserved c = search (rules, sum_again)
+
+pub returns : goal.returns
+returns c = search (rules, sum_ends)
