@@ -14,21 +14,19 @@ pub word-writes-requires : goal.word-writes-requires
 word-writes-requires c = search (rules, word_there)
 
 pub may_grant-requires : goal.may_grant-requires
-may_grant-requires c = let pre = c.requires in
-    let inv = c.loop-k.invariant in
-    let whole = pre.1.1.1 in record { access_value = search rules; k_le_word_values = (search rules, inv.1.stands, inv.0); reads_value = (search (rules, count_of_entry), search (rules, count_of_entry), search rules); k_in_bounds = (search (rules, entry_there), whole.few, listed_data _ _ pre.0.0 whole) }
+may_grant-requires c = let inv = c.loop-k.invariant in
+    let whole = c.requires.whole in record { access_value = search rules; k_le_word_values = (search rules, inv.1.stands, inv.0); reads_value = (search (rules, count_of_entry), search (rules, count_of_entry), search rules); k_in_bounds = (search (rules, entry_there), whole.few, listed_data _ _ c.requires.access_value.0 whole) }
 
 pub returns-then-may_grant : goal.returns-then-may_grant
 returns-then-may_grant c = c.loop-k.invariant.1
 
 pub loop-k-preserved : goal.loop-k-preserved
-loop-k-preserved c = let pre = c.requires in
-    let inv = c.loop-k.invariant in
+loop-k-preserved c = let inv = c.loop-k.invariant in
     let below = c.loop-k-test.true in
     let stands = c.entry_at-at.ensures in
     let reads = c.word-reads.ensures in
     let writes = c.word-writes.ensures in
-    (search rules, one_passed _ _ _ _ _ _ _ _ _ _ pre.1.0.0 inv.1 below stands reads writes (search rules) c.may_grant.ensures c.if-may_grant.false)
+    (search rules, one_passed _ _ _ _ _ _ _ _ _ _ c.requires.entries_value.0 inv.1 below stands reads writes (search rules) c.may_grant.ensures c.if-may_grant.false)
 
 pub returns : goal.returns
 returns c = c.loop-k.invariant.1

@@ -6,7 +6,7 @@ use Rattle.judge_whole.specs.Whole.{NextGranting}
 use Rattle.judge_whole.proofs.next_granting.Given as goal
 
 abbrev pub invariant-loop-k : goal.invariant-loop-k
-invariant-loop-k l = (l.first ≤ 2 * word_values * l.k) × NextGranting l.t l.event l.from (record { entry = l.k; l.first = l.first })
+invariant-loop-k l = (l.first ≤ 2 * word_values * l.k) × NextGranting l.t l.event l.from (record { entry = l.k; first = l.first })
 
 abbrev pub decreases-loop-k : goal.decreases-loop-k
 decreases-loop-k l = entry_count l.t - l.k
