@@ -1,0 +1,13 @@
+-- By the sort that the first word says.
+use Rattle.std.proofs.Common.{rules}
+use Rattle.overlap.proofs.Words.{apart_root, apart_user, apart_neither}
+use Rattle.overlap.proofs.uids_apart.Goals as goal
+
+pub returns-then-a-eq-ROOT : goal.returns-then-a-eq-ROOT
+returns-then-a-eq-ROOT c = search (rules, apart_root)
+
+pub returns-then-a-ge-USER : goal.returns-then-a-ge-USER
+returns-then-a-ge-USER c = search (rules, apart_user)
+
+pub returns : goal.returns
+returns c = search (rules, apart_neither)
