@@ -18,7 +18,7 @@ DECLARED = re.compile(
 )
 RECORD = re.compile(r"^( *)(?:pub )?record [^\n]*where\n", re.M)
 LIBRARY = re.compile(r"^use (?:Rattle\.std|borrow|lib|mathlib|native|Prim)\b[^\n{]*\{([^}]*)\}", re.M)
-OF_FUNCTION = ("Proof.antt", "Answers.antt", "Invariants.antt")
+OF_FUNCTION = re.compile(r"/proofs/.+/(?:Proof|Answers|Invariants)\.antt$")
 
 
 def files(*endings):
@@ -75,14 +75,14 @@ def spellings(declared):
 def main():
     declared, of_records = set(), set()
     for path in files(".antt"):
-        if os.path.basename(path) not in OF_FUNCTION:
+        if not OF_FUNCTION.search(path):
             text = read(path)
             declared |= set(DECLARED.findall(text))
             of_records |= fields(text)
     new = spellings(declared)
     for path in files(".antt", ".rt", ".edit"):
         text = read(path)
-        of_function = os.path.basename(path) in OF_FUNCTION
+        of_function = OF_FUNCTION.search(path)
         kept = {word.strip() for words in LIBRARY.findall(text) for word in words.split(",")}
         if of_function:
             imported = {word.strip() for words in re.findall(r"^use Rattle\.[^\n{]*\{([^}]*)\}", text, re.M) for word in words.split(",")}

@@ -23,51 +23,51 @@ use Rattle.file_listing.specs.Answer.{listing_of, list_left, words_listed, list_
 -- ---- the room
 
 module _ (words : ℕ) (things out : List ℕ) (e : words ≡ length things) where
-  pub listed-is : listing.Listed words ≡ listing.Listed (length things)
-  listed-is = ap listing.Listed e
+  pub listed_is : listing.Listed words ≡ listing.Listed (length things)
+  listed_is = ap listing.Listed e
 
-  pub left-short : length out < words → out ≡ list_left things out
+  pub left_short : length out < words → out ≡ list_left things out
   unfolding list_left
-  left-short h = rw (← e, lt-ltb (length out) words h) refl
+  left_short h = rw (← e, lt-ltb (length out) words h) refl
 
-  pub left-listed : (after : List ℕ) (r : ℕ) → words ≤ length out → Wrote things out after r → after ≡ list_left things out
+  pub left_listed : (after : List ℕ) (r : ℕ) → words ≤ length out → Wrote things out after r → after ≡ list_left things out
   unfolding list_left
-  left-listed after r h w = w.left ∙ rw (← e, le-ltb (length out) words h) refl
+  left_listed after r h w = w.left ∙ rw (← e, le-ltb (length out) words h) refl
 
 -- ---- the rules
 
 module _ (fs : List Field) (r : Reading) (e : r ≡ reading_of (ruled fs)) where
   module _ (k m : ℕ) (q : r ≡ Unread k m) where
-    pub rules-refuse : listing.Unlisted k m ≡ listing_of (ruled fs)
-    rules-refuse = rw (rules_fault fs r e k m q) refl
+    pub rules_refuse : listing.Unlisted k m ≡ listing_of (ruled fs)
+    rules_refuse = rw (rules_fault fs r e k m q) refl
 
-    pub rules-untouched : (out : List ℕ) → out ≡ words_listed (ruled fs) out
-    rules-untouched out = rw (rules_fault fs r e k m q) refl
+    pub rules_untouched : (out : List ℕ) → out ≡ words_listed (ruled fs) out
+    rules_untouched out = rw (rules_fault fs r e k m q) refl
 
   module _ (q : r ≡ Accepted) where
-    pub rules-answer : (a : Listing) → a ≡ listing.Listed (length (things_of fs)) → a ≡ listing_of (ruled fs)
-    rules-answer a h = h ∙ rw (rules_hold fs r e q) refl
+    pub rules_answer : (a : Listing) → a ≡ listing.Listed (length (things_of fs)) → a ≡ listing_of (ruled fs)
+    rules_answer a h = h ∙ rw (rules_hold fs r e q) refl
 
-    pub rules-leave : (out after : List ℕ) → after ≡ list_left (things_of fs) out → after ≡ words_listed (ruled fs) out
-    rules-leave out after h = h ∙ rw (rules_hold fs r e q) refl
+    pub rules_leave : (out after : List ℕ) → after ≡ list_left (things_of fs) out → after ≡ words_listed (ruled fs) out
+    rules_leave out after h = h ∙ rw (rules_hold fs r e q) refl
 
 -- ---- the page
 
 module _ (t list : List ℕ) (f : Found) (e : found_in t list f ≡ text_page t) where
   module _ (k m : ℕ) (q : f ≡ Refused k m) where
-    pub page-refuses : listing.Unlisted k m ≡ list_answer t
+    pub page_refuses : listing.Unlisted k m ≡ list_answer t
     unfolding list_answer
-    page-refuses = rw (file_refused t list f e k m q) refl
+    page_refuses = rw (file_refused t list f e k m q) refl
 
-    pub page-untouched : (out : List ℕ) → out ≡ list_leaves t out
+    pub page_untouched : (out : List ℕ) → out ≡ list_leaves t out
     unfolding list_leaves
-    page-untouched out = rw (file_refused t list f e k m q) refl
+    page_untouched out = rw (file_refused t list f e k m q) refl
 
   module _ (n : ℕ) (q : f ≡ Listed n) where
-    pub page-answers : (a : Listing) → a ≡ listing_of (ruled (between t list 0 n)) → a ≡ list_answer t
+    pub page_answers : (a : Listing) → a ≡ listing_of (ruled (between t list 0 n)) → a ≡ list_answer t
     unfolding list_answer
-    page-answers a h = h ∙ rw (file_held t list f e n q) refl
+    page_answers a h = h ∙ rw (file_held t list f e n q) refl
 
-    pub page-leaves : (out after : List ℕ) → after ≡ words_listed (ruled (between t list 0 n)) out → after ≡ list_leaves t out
+    pub page_leaves : (out after : List ℕ) → after ≡ words_listed (ruled (between t list 0 n)) out → after ≡ list_leaves t out
     unfolding list_leaves
-    page-leaves out after h = h ∙ rw (file_held t list f e n q) refl
+    page_leaves out after h = h ∙ rw (file_held t list f e n q) refl

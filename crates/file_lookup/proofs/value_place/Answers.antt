@@ -1,0 +1,10 @@
+-- The value's length is how many bytes stand there.
+use Rattle.std.proofs.Common.{rules}
+use Rattle.file_lookup.proofs.Placed.{value_fits, value_stretch, value_ends}
+use Rattle.file_lookup.proofs.value_place.Goals as goal
+
+pub overflow_add-result : goal.overflow_add-result
+overflow_add-result c = search (rules, value_fits)
+
+pub returns : goal.returns
+returns c = search (rules, value_stretch, value_ends)
