@@ -16,7 +16,7 @@ use Rattle.paper.specs.Table.{policy_in, well_formed}
 use Rattle.paper.specs.Overlap.{is_user, witness_uid, Says}
 use Rattle.paper.specs.Lookup.{Stretch, front}
 use Rattle.paper.specs.Promises.{report_refusal, ReportedUnless, Reported, lookup_answer, lookup_numbered}
-use Rattle.paper.specs.Answers.{nameParts, PartsFit, ReportFits}
+use Rattle.paper.specs.Answers.{name_parts, PartsFit, ReportFits}
 use Rattle.laws_table.proofs.Formed.{formed}
 use Rattle.laws_table.proofs.Held.{formed_proper}
 use Rattle.file_lookup.specs.Names.{Bounded}
@@ -63,8 +63,8 @@ module _ (table old new : List ℕ) where
 
 -- ---- a name
 
-bounded_fits : (t : List ℕ) (s : Stretch) → Bounded t s → PartsFit (nameParts s)
-unfolding nameParts
+bounded_fits : (t : List ℕ) (s : Stretch) → Bounded t s → PartsFit (name_parts s)
+unfolding name_parts
 bounded_fits t s b = (class_fits (is_empty s.bytes), omega (arith, b.short), omega (arith, b.low))
   where
     class_fits : (empty : Bool) → cond empty 1 2 < 65536
@@ -72,7 +72,7 @@ bounded_fits t s b = (class_fits (is_empty s.bytes), omega (arith, b.short), ome
     class_fits false = omega arith
 
 -- of every text, map's number and domain's number
-pub name_fits : (t : List ℕ) (number d : ℕ) → PartsFit (nameParts (lookup_numbered t number d))
+pub name_fits : (t : List ℕ) (number d : ℕ) → PartsFit (name_parts (lookup_numbered t number d))
 unfolding lookup_numbered
 name_fits t number d = bounded_fits t _ (numbered (eqb number 1) (eqb number 2))
   where

@@ -12,7 +12,7 @@ use Rattle.paper.specs.declared.Map.{Map}
 use Rattle.paper.specs.declared.Map.TheVariants.{Objects, Subjects}
 use Rattle.paper.specs.Lookup.{front}
 use Rattle.paper.specs.Promises.{lookup_answer, lookup_numbered}
-use Rattle.paper.specs.Answers.{packed, readingPacked, fillingPacked, verdictPacked, nameParts, namePacked}
+use Rattle.paper.specs.Answers.{packed, reading_packed, filling_packed, verdict_packed, name_parts, name_packed}
 use Rattle.laws.proofs.Stretches.{length_taken}
 use Rattle.file_lookup.specs.declared.Place.{Place}
 use Rattle.file_lookup.specs.Place.{bytes_in, stretch_in, InText}
@@ -34,49 +34,49 @@ module _ (a : Listing) (r : ℕ) where
 
 -- ---- the number of an answer that is known
 
-pub packs_verdict : (v answer : Verdict) (r : ℕ) → r ≡ verdictPacked v → v ≡ answer → r ≡ verdictPacked answer
-packs_verdict v answer r p e = p ∙ ap verdictPacked e
+pub packs_verdict : (v answer : Verdict) (r : ℕ) → r ≡ verdict_packed v → v ≡ answer → r ≡ verdict_packed answer
+packs_verdict v answer r p e = p ∙ ap verdict_packed e
 
-pub packs_reading : (a answer : Reading) (r : ℕ) → r ≡ readingPacked a → a ≡ answer → r ≡ readingPacked answer
-packs_reading a answer r p e = p ∙ ap readingPacked e
+pub packs_reading : (a answer : Reading) (r : ℕ) → r ≡ reading_packed a → a ≡ answer → r ≡ reading_packed answer
+packs_reading a answer r p e = p ∙ ap reading_packed e
 
-pub packs_filling : (a answer : Filling) (r : ℕ) → r ≡ fillingPacked a → a ≡ answer → r ≡ fillingPacked answer
-packs_filling a answer r p e = p ∙ ap fillingPacked e
+pub packs_filling : (a answer : Filling) (r : ℕ) → r ≡ filling_packed a → a ≡ answer → r ≡ filling_packed answer
+packs_filling a answer r p e = p ∙ ap filling_packed e
 
 -- ---- the number of a name
 
 -- where there is none
-pub packs_front : (r : ℕ) → r ≡ packed (record { class = 1; value = 0; rest = 0 }) → r ≡ namePacked front
-unfolding namePacked nameParts front
+pub packs_front : (r : ℕ) → r ≡ packed (record { class = 1; value = 0; rest = 0 }) → r ≡ name_packed front
+unfolding name_packed name_parts front
 packs_front r h = h
 
 module _ (t : List ℕ) (which : Map) (d : ℕ) (place : Place) (e : stretch_in t place ≡ lookup_answer t which d) (lies : InText t place) where
   name_length : length (bytes_in t place) ≡ place.end - place.start
   name_length = length_taken t place.start (place.end - place.start) (omega (arith, lies.ordered, lies.within))
 
-  pub packs_none : (r : ℕ) → place.end - place.start ≡ 0 → r ≡ packed (record { class = 1; value = 0; rest = 0 }) → r ≡ namePacked (lookup_answer t which d)
+  pub packs_none : (r : ℕ) → place.end - place.start ≡ 0 → r ≡ packed (record { class = 1; value = 0; rest = 0 }) → r ≡ name_packed (lookup_answer t which d)
   packs_none r z h =
       let none : lookup_answer t which d ≡ front = empty_front t which d (rw (← e) (name_length ∙ z)) in
       rw none (packs_front r h)
 
   pub packs_found : (r : ℕ) → (place.end - place.start ≡ 0 → ⊥) → r ≡ packed (record { class = 2; value = place.end - place.start; rest = place.start })
-      → r ≡ namePacked (lookup_answer t which d)
-  unfolding namePacked nameParts
+      → r ≡ name_packed (lookup_answer t which d)
+  unfolding name_packed name_parts
   packs_found r z h = rw (← e, name_length, ne_eqb (place.end - place.start) 0 z) h
 
 -- ---- of a map by its number
 
 module _ (t : List ℕ) (number d r : ℕ) where
-  pub by_objects : number ≡ 1 → r ≡ namePacked (lookup_answer t Objects d) → r ≡ namePacked (lookup_numbered t number d)
+  pub by_objects : number ≡ 1 → r ≡ name_packed (lookup_answer t Objects d) → r ≡ name_packed (lookup_numbered t number d)
   unfolding lookup_numbered
   by_objects o h = rw (eq-eqb number 1 o) h
 
   module _ (other : number ≡ 1 → ⊥) where
-    pub by_subjects : number ≡ 2 → r ≡ namePacked (lookup_answer t Subjects d) → r ≡ namePacked (lookup_numbered t number d)
+    pub by_subjects : number ≡ 2 → r ≡ name_packed (lookup_answer t Subjects d) → r ≡ name_packed (lookup_numbered t number d)
     unfolding lookup_numbered
     by_subjects s h = rw (ne_eqb number 1 other, eq-eqb number 2 s) h
 
-    pub by_none : (number ≡ 2 → ⊥) → r ≡ packed (record { class = 1; value = 0; rest = 0 }) → r ≡ namePacked (lookup_numbered t number d)
+    pub by_none : (number ≡ 2 → ⊥) → r ≡ packed (record { class = 1; value = 0; rest = 0 }) → r ≡ name_packed (lookup_numbered t number d)
     unfolding lookup_numbered
     by_none third h = rw (ne_eqb number 1 other, ne_eqb number 2 third) (packs_front r h)
 

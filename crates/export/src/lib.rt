@@ -1,4 +1,4 @@
-// The proved functions for C and Rust: include/dovetenon.h says what each answers, and crates/paper/specs/Answers.antt how
+// The proved functions, as C and Rust call them: include/dovetenon.h says what each answers, and crates/paper/specs/Answers.antt how
 // an answer is one number.
 #![tactic(auto)]
 
@@ -8,7 +8,7 @@ ghost use Rattle.std.specs.Prelude.{◌≡◌};
 ghost use Rattle.paper.specs.Table.{well_formed, policy_in};
 ghost use Rattle.paper.specs.Promises.{text_page, reading_of, read_answer, read_leaves, fill_answer, fill_leaves, judge_event, judge_answer};
 ghost use Rattle.paper.specs.Promises.{lookup_answer, lookup_numbered};
-ghost use Rattle.paper.specs.Answers.{readingPacked, fillingPacked, verdictPacked, namePacked};
+ghost use Rattle.paper.specs.Answers.{reading_packed, filling_packed, verdict_packed, name_packed};
 ghost use Rattle.file_listing.specs.Answer.{list_answer, list_leaves, listing_packed};
 ghost use Rattle.file_find.specs.Number.{number_of};
 ghost use Rattle.export.specs.Told.{ReportedAs};
@@ -18,15 +18,13 @@ use file_listing::Listing;
 use judge_match::Ids;
 use paper::Map;
 
-#[unsafe(no_mangle)]
-pub extern "C" fn dovetenon_well_formed(table: &[u16]) -> bool
+pub fn dovetenon_well_formed(table: &[u16]) -> bool
     ensures { result ≡ well_formed table.now }
 {
     table_test::well_formed(table)
 }
 
-#[unsafe(no_mangle)]
-pub extern "C" fn dovetenon_judge(
+pub fn dovetenon_judge(
     table: &[u16],
     operation: u16,
     target: u16,
@@ -39,7 +37,7 @@ pub extern "C" fn dovetenon_judge(
     allocation_gid: u32,
     allocation_namespace: u32,
 ) -> u32
-    ensures { result ≡ verdictPacked (judge_answer table.now operation target
+    ensures { result ≡ verdict_packed (judge_answer table.now operation target
         (record { stack = stack.entry.now; uid = uid; gid = gid; namespace = namespace })
         (record { stack = allocation.now; uid = allocation_uid; gid = allocation_gid; namespace = allocation_namespace })) }
 {
@@ -56,8 +54,7 @@ pub extern "C" fn dovetenon_judge(
     packed_verdict(judge::judge(table, operation, target, stack, ids, allocation, allocated))
 }
 
-#[unsafe(no_mangle)]
-pub extern "C" fn dovetenon_judge_known(
+pub fn dovetenon_judge_known(
     table: &[u16],
     operation: u16,
     target: u16,
@@ -70,7 +67,7 @@ pub extern "C" fn dovetenon_judge_known(
     allocation_gid: u32,
     allocation_namespace: u32,
 ) -> u32
-    ensures { result ≡ verdictPacked (judge_event (policy_in table.now) operation target
+    ensures { result ≡ verdict_packed (judge_event (policy_in table.now) operation target
         (record { stack = stack.entry.now; uid = uid; gid = gid; namespace = namespace })
         (record { stack = allocation.now; uid = allocation_uid; gid = allocation_gid; namespace = allocation_namespace })) }
 {
@@ -87,31 +84,27 @@ pub extern "C" fn dovetenon_judge_known(
     packed_verdict(judge::judge_known(table, operation, target, stack, ids, allocation, allocated))
 }
 
-#[unsafe(no_mangle)]
-pub extern "C" fn dovetenon_overlap(table: &[u16], witness: &mut [u16]) -> u64
+pub fn dovetenon_overlap(table: &[u16], witness: &mut [u16]) -> u64
     ensures { ReportedAs table.now witness.old witness.new result }
 {
     packed_report(overlap::overlap(table, witness))
 }
 
-#[unsafe(no_mangle)]
-pub extern "C" fn dovetenon_page(text: &[u8]) -> u64
-    ensures { result ≡ readingPacked (reading_of (text_page text.now)) }
+pub fn dovetenon_page(text: &[u8]) -> u64
+    ensures { result ≡ reading_packed (reading_of (text_page text.now)) }
 {
     packed_reading(text_page::text_reading(text))
 }
 
-#[unsafe(no_mangle)]
-pub extern "C" fn dovetenon_read(text: &[u8], table: &mut [u16]) -> u64
-    ensures value { result ≡ readingPacked (read_answer text.now table.old) }
+pub fn dovetenon_read(text: &[u8], table: &mut [u16]) -> u64
+    ensures value { result ≡ reading_packed (read_answer text.now table.old) }
     ensures table_after { table.new ≡ read_leaves text.now table.old }
 {
     packed_reading(file_read::read(text, table))
 }
 
-#[unsafe(no_mangle)]
-pub extern "C" fn dovetenon_fill(text: &[u8], out: &mut [u8]) -> u64
-    ensures value { result ≡ fillingPacked (fill_answer text.now out.old) }
+pub fn dovetenon_fill(text: &[u8], out: &mut [u8]) -> u64
+    ensures value { result ≡ filling_packed (fill_answer text.now out.old) }
     ensures out_after { out.new ≡ fill_leaves text.now out.old }
 {
     packed_filling(file_fill::fill(text, out))
@@ -119,7 +112,7 @@ pub extern "C" fn dovetenon_fill(text: &[u8], out: &mut [u8]) -> u64
 
 // The name of a domain, or that there is none.
 fn packed_name(text: &[u8], map: Map, domain: usize) -> u64
-    ensures { result ≡ namePacked (lookup_answer text.now map domain) }
+    ensures { result ≡ name_packed (lookup_answer text.now map domain) }
 {
     let place = file_lookup::name_place(text, map, domain);
     let start = place.start;
@@ -130,9 +123,8 @@ fn packed_name(text: &[u8], map: Map, domain: usize) -> u64
     whole(class::NAME_FOUND, length as u16, start as u32)
 }
 
-#[unsafe(no_mangle)]
-pub extern "C" fn dovetenon_name(text: &[u8], map: u16, domain: usize) -> u64
-    ensures { result ≡ namePacked (lookup_numbered text.now map domain) }
+pub fn dovetenon_name(text: &[u8], map: u16, domain: usize) -> u64
+    ensures { result ≡ name_packed (lookup_numbered text.now map domain) }
 {
     if map == map::OBJECTS {
         return packed_name(text, Map::Objects, domain);
@@ -152,16 +144,14 @@ fn packed_listing(listing: Listing) -> u64
     }
 }
 
-#[unsafe(no_mangle)]
-pub extern "C" fn dovetenon_list(text: &[u8], list: &mut [u32]) -> u64
+pub fn dovetenon_list(text: &[u8], list: &mut [u32]) -> u64
     ensures value { result ≡ listing_packed (list_answer text.now) }
     ensures list_after { list.new ≡ list_leaves text.now list.old }
 {
     packed_listing(file_listing::list(text, list))
 }
 
-#[unsafe(no_mangle)]
-pub extern "C" fn dovetenon_find(text: &[u8], list: &[u32], kind: u32, name: &[u8]) -> usize
+pub fn dovetenon_find(text: &[u8], list: &[u32], kind: u32, name: &[u8]) -> usize
     ensures { result ≡ number_of text.now list.now kind name.now }
 {
     file_find::find(text, list, kind, name)

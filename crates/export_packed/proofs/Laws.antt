@@ -10,7 +10,7 @@ use Rattle.paper.specs.declared.Reading.{Reading}
 use Rattle.paper.specs.declared.Reading.TheVariants.{Accepted, Unread}
 use Rattle.paper.specs.declared.Filling.{Filling}
 use Rattle.paper.specs.declared.Filling.TheVariants.{Written, Unfilled}
-use Rattle.paper.specs.Answers.{clashRest, packed, readingPacked, fillingPacked, verdictPacked, reportPacked, ReportFits}
+use Rattle.paper.specs.Answers.{clash_rest, packed, reading_packed, filling_packed, verdict_packed, report_packed, ReportFits}
 
 -- ---- parts to a number
 
@@ -25,60 +25,60 @@ module _ (class value : ℕ) where
   unfolding packed
   whole_packed low rest h = omega arith
 
-pub clash_packed : (lower higher depth uid : ℕ) → lower + higher * 256 + depth * 65536 + uid * 16777216 ≡ clashRest lower higher depth uid
-unfolding clashRest
+pub clash_packed : (lower higher depth uid : ℕ) → lower + higher * 256 + depth * 65536 + uid * 16777216 ≡ clash_rest lower higher depth uid
+unfolding clash_rest
 clash_packed lower higher depth uid = refl
 
 -- ---- the number of each case
 
 module _ (v : Verdict) (r : ℕ) where
-  pub packs_unjudged : (number : ℕ) → v ≡ Unjudged number → r ≡ packed (record { class = 1; value = number; rest = 0 }) → r ≡ verdictPacked v
-  unfolding verdictPacked
+  pub packs_unjudged : (number : ℕ) → v ≡ Unjudged number → r ≡ packed (record { class = 1; value = number; rest = 0 }) → r ≡ verdict_packed v
+  unfolding verdict_packed
   packs_unjudged number e h = rw e h
 
-  pub packs_violation : (number : ℕ) → v ≡ Violation number → r ≡ packed (record { class = 2; value = number; rest = 0 }) → r ≡ verdictPacked v
-  unfolding verdictPacked
+  pub packs_violation : (number : ℕ) → v ≡ Violation number → r ≡ packed (record { class = 2; value = number; rest = 0 }) → r ≡ verdict_packed v
+  unfolding verdict_packed
   packs_violation number e h = rw e h
 
-  pub packs_inside : v ≡ Inside → r ≡ packed (record { class = 3; value = 0; rest = 0 }) → r ≡ verdictPacked v
-  unfolding verdictPacked
+  pub packs_inside : v ≡ Inside → r ≡ packed (record { class = 3; value = 0; rest = 0 }) → r ≡ verdict_packed v
+  unfolding verdict_packed
   packs_inside e h = rw e h
 
-  pub packs_granted : (entry : ℕ) → v ≡ Granted entry → r ≡ packed (record { class = 4; value = entry; rest = 0 }) → r ≡ verdictPacked v
-  unfolding verdictPacked
+  pub packs_granted : (entry : ℕ) → v ≡ Granted entry → r ≡ packed (record { class = 4; value = entry; rest = 0 }) → r ≡ verdict_packed v
+  unfolding verdict_packed
   packs_granted entry e h = rw e h
 
 module _ (a : Reading) (r : ℕ) where
-  pub packs_unread : (number line : ℕ) → a ≡ Unread number line → r ≡ packed (record { class = 1; value = number; rest = line }) → r ≡ readingPacked a
-  unfolding readingPacked
+  pub packs_unread : (number line : ℕ) → a ≡ Unread number line → r ≡ packed (record { class = 1; value = number; rest = line }) → r ≡ reading_packed a
+  unfolding reading_packed
   packs_unread number line e h = rw e h
 
-  pub packs_accepted : a ≡ Accepted → r ≡ packed (record { class = 2; value = 0; rest = 0 }) → r ≡ readingPacked a
-  unfolding readingPacked
+  pub packs_accepted : a ≡ Accepted → r ≡ packed (record { class = 2; value = 0; rest = 0 }) → r ≡ reading_packed a
+  unfolding reading_packed
   packs_accepted e h = rw e h
 
 module _ (a : Filling) (r : ℕ) where
-  pub packs_unfilled : (number line : ℕ) → a ≡ Unfilled number line → r ≡ packed (record { class = 1; value = number; rest = line }) → r ≡ fillingPacked a
-  unfolding fillingPacked
+  pub packs_unfilled : (number line : ℕ) → a ≡ Unfilled number line → r ≡ packed (record { class = 1; value = number; rest = line }) → r ≡ filling_packed a
+  unfolding filling_packed
   packs_unfilled number line e h = rw e h
 
-  pub packs_written : (size : ℕ) → a ≡ Written size → r ≡ packed (record { class = 2; value = 0; rest = size }) → r ≡ fillingPacked a
-  unfolding fillingPacked
+  pub packs_written : (size : ℕ) → a ≡ Written size → r ≡ packed (record { class = 2; value = 0; rest = size }) → r ≡ filling_packed a
+  unfolding filling_packed
   packs_written size e h = rw e h
 
 module _ (a : Report) (r : ℕ) where
-  pub packs_unreported : (number : ℕ) → a ≡ Unreported number → r ≡ packed (record { class = 1; value = number; rest = 0 }) → r ≡ reportPacked a
-  unfolding reportPacked
+  pub packs_unreported : (number : ℕ) → a ≡ Unreported number → r ≡ packed (record { class = 1; value = number; rest = 0 }) → r ≡ report_packed a
+  unfolding report_packed
   packs_unreported number e h = rw e h
 
   pub packs_clash :
-      (lower higher depth uid gid namespace rest : ℕ) → a ≡ Clash lower higher depth uid gid namespace → rest ≡ clashRest lower higher depth uid
-      → r ≡ packed (record { class = 2; value = 0; rest = rest }) → r ≡ reportPacked a
-  unfolding reportPacked
+      (lower higher depth uid gid namespace rest : ℕ) → a ≡ Clash lower higher depth uid gid namespace → rest ≡ clash_rest lower higher depth uid
+      → r ≡ packed (record { class = 2; value = 0; rest = rest }) → r ≡ report_packed a
+  unfolding report_packed
   packs_clash lower higher depth uid gid namespace rest e s h = rw (e, ← s) h
 
-  pub packs_clear : a ≡ Clear → r ≡ packed (record { class = 3; value = 0; rest = 0 }) → r ≡ reportPacked a
-  unfolding reportPacked
+  pub packs_clear : a ≡ Clear → r ≡ packed (record { class = 3; value = 0; rest = 0 }) → r ≡ report_packed a
+  unfolding report_packed
   packs_clear e h = rw e h
 
 -- ---- the numbers of a clash have room

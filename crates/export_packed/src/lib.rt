@@ -4,7 +4,7 @@
 pub mod class;
 
 ghost use Rattle.std.specs.Prelude.{◌≡◌, ◌≤◌, ◌<◌};
-ghost use Rattle.paper.specs.Answers.{clashRest, packed, readingPacked, fillingPacked, verdictPacked, reportPacked, ReportFits};
+ghost use Rattle.paper.specs.Answers.{clash_rest, packed, reading_packed, filling_packed, verdict_packed, report_packed, ReportFits};
 
 use paper::{Filling, Reading, Report, Verdict};
 
@@ -35,7 +35,7 @@ pub fn whole(class: u16, value: u16, rest: u32) -> u64
 }
 
 pub fn packed_verdict(verdict: Verdict) -> u32
-    ensures { result ≡ verdictPacked verdict }
+    ensures { result ≡ verdict_packed verdict }
 {
     match verdict {
         Verdict::Unjudged { number } => half(class::REFUSED, number),
@@ -48,14 +48,14 @@ pub fn packed_verdict(verdict: Verdict) -> u32
 // What a clash tells besides.
 fn clash_rest(lower: u16, higher: u16, depth: u16, uid: u32) -> u32
     requires { (lower < 256) × (higher < 256) × (depth < 256) × (uid ≤ 1) }
-    ensures { result ≡ clashRest lower higher depth uid }
+    ensures { result ≡ clash_rest lower higher depth uid }
 {
     (lower as u32) + (higher as u32) * HIGHER + (depth as u32) * DEPTH + uid * UID
 }
 
 pub fn packed_report(report: Report) -> u64
     requires { ReportFits report }
-    ensures { result ≡ reportPacked report }
+    ensures { result ≡ report_packed report }
 {
     match report {
         Report::Unreported { number } => whole(class::REFUSED, number, 0),
@@ -72,7 +72,7 @@ pub fn packed_report(report: Report) -> u64
 }
 
 pub fn packed_reading(reading: Reading) -> u64
-    ensures { result ≡ readingPacked reading }
+    ensures { result ≡ reading_packed reading }
 {
     match reading {
         Reading::Unread { number, line } => whole(class::REFUSED, number, line),
@@ -81,7 +81,7 @@ pub fn packed_reading(reading: Reading) -> u64
 }
 
 pub fn packed_filling(filling: Filling) -> u64
-    ensures { result ≡ fillingPacked filling }
+    ensures { result ≡ filling_packed filling }
 {
     match filling {
         Filling::Unfilled { number, line } => whole(class::REFUSED, number, line),

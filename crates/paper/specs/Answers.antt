@@ -26,36 +26,36 @@ abbrev pub refused : ℕ → ℕ → Parts
 refused number line = record { class = 1; value = number; rest = line }
 
 -- the reader
-abbrev pub readingParts : Reading → Parts
-readingParts (Unread number line) = refused number line
-readingParts Accepted = record { class = 2; value = 0; rest = 0 }
+abbrev pub reading_parts : Reading → Parts
+reading_parts (Unread number line) = refused number line
+reading_parts Accepted = record { class = 2; value = 0; rest = 0 }
 
 -- the filler: how long the filled text is
-abbrev pub fillingParts : Filling → Parts
-fillingParts (Unfilled number line) = refused number line
-fillingParts (Written size) = record { class = 2; value = 0; rest = size }
+abbrev pub filling_parts : Filling → Parts
+filling_parts (Unfilled number line) = refused number line
+filling_parts (Written size) = record { class = 2; value = 0; rest = size }
 
 -- the judge: "violation 1" to "violation 4"; "allowed inside one domain"; "allowed, with the lowest matching entry that grants"
-abbrev pub verdictParts : Verdict → Parts
-verdictParts (Unjudged number) = refused number no_line
-verdictParts (Violation number) = record { class = 2; value = number; rest = 0 }
-verdictParts Inside = record { class = 3; value = 0; rest = 0 }
-verdictParts (Granted entry) = record { class = 4; value = entry; rest = 0 }
+abbrev pub verdict_parts : Verdict → Parts
+verdict_parts (Unjudged number) = refused number no_line
+verdict_parts (Violation number) = record { class = 2; value = number; rest = 0 }
+verdict_parts Inside = record { class = 3; value = 0; rest = 0 }
+verdict_parts (Granted entry) = record { class = 4; value = entry; rest = 0 }
 
 -- "the pair (lower entry least, then higher least), the stack's length, uid (1 if either entry says `user`, else 0)":
 -- bits 0 to 7, 8 to 15, 16 to 23, and bit 24
-unfoldable pub clashRest : ℕ → ℕ → ℕ → ℕ → ℕ
-clashRest lower higher depth uid = lower + higher * 256 + depth * 65536 + uid * 16777216
+unfoldable pub clash_rest : ℕ → ℕ → ℕ → ℕ → ℕ
+clash_rest lower higher depth uid = lower + higher * 256 + depth * 65536 + uid * 16777216
 
 -- the overlap report; "gid 0" and the namespace are not told, being always 0
-abbrev pub reportParts : Report → Parts
-reportParts (Unreported number) = refused number no_line
-reportParts (Clash lower higher depth uid gid namespace) = record { class = 2; value = 0; rest = clashRest lower higher depth uid }
-reportParts Clear = record { class = 3; value = 0; rest = 0 }
+abbrev pub report_parts : Report → Parts
+report_parts (Unreported number) = refused number no_line
+report_parts (Clash lower higher depth uid gid namespace) = record { class = 2; value = 0; rest = clash_rest lower higher depth uid }
+report_parts Clear = record { class = 3; value = 0; rest = 0 }
 
 -- name lookup: how long the name is and where it starts; class 1 for "an empty stretch at the front"
-unfoldable pub nameParts : Stretch → Parts
-nameParts s = record { class = cond (is_empty s.bytes) 1 2; value = length s.bytes; rest = s.start }
+unfoldable pub name_parts : Stretch → Parts
+name_parts s = record { class = cond (is_empty s.bytes) 1 2; value = length s.bytes; rest = s.start }
 
 -- ---- an answer as one number, as include/dovetenon.h lays it out. No class is 0, so that 0 is no answer at all
 
@@ -64,24 +64,24 @@ unfoldable pub packed : Parts → ℕ
 packed a = a.value + a.class * 65536 + a.rest * 4294967296
 
 -- the reader's answer
-unfoldable pub readingPacked : Reading → ℕ
-readingPacked r = packed (readingParts r)
+unfoldable pub reading_packed : Reading → ℕ
+reading_packed r = packed (reading_parts r)
 
 -- the filler's
-unfoldable pub fillingPacked : Filling → ℕ
-fillingPacked f = packed (fillingParts f)
+unfoldable pub filling_packed : Filling → ℕ
+filling_packed f = packed (filling_parts f)
 
 -- the judge's, of 32 bits, since its rest is 0
-unfoldable pub verdictPacked : Verdict → ℕ
-verdictPacked v = packed (verdictParts v)
+unfoldable pub verdict_packed : Verdict → ℕ
+verdict_packed v = packed (verdict_parts v)
 
 -- the overlap report's
-unfoldable pub reportPacked : Report → ℕ
-reportPacked r = packed (reportParts r)
+unfoldable pub report_packed : Report → ℕ
+report_packed r = packed (report_parts r)
 
 -- name lookup's
-unfoldable pub namePacked : Stretch → ℕ
-namePacked s = packed (nameParts s)
+unfoldable pub name_packed : Stretch → ℕ
+name_packed s = packed (name_parts s)
 
 -- its parts again, as the functions of include/dovetenon.h take them
 unfoldable pub unpacked : ℕ → Parts
