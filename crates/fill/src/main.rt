@@ -5,8 +5,8 @@
 ghost use Rattle.fill.specs.Input.{Within};
 
 use fill_output::output;
-use libc::{STDERR_FILENO, STDIN_FILENO, STDOUT_FILENO};
 use paper::limit;
+use std::io::{Print, Read, Stderr, Stdout};
 
 // What came: so many bytes, or a read that failed.
 #[derive(Clone, Copy)]
@@ -16,41 +16,41 @@ enum Input {
 }
 
 // Standard input, to its end or until the text is full. A read that fails is not taken for the end.
-fn read_text(text: &mut [u8]) -> Input
+fn read_text(from: &mut impl Read, text: &mut [u8]) -> Input
     ensures { Within result text.new }
 {
     let mut done: usize = 0;
     while done < text.len() {
-        let got = libc::read(STDIN_FILENO, &mut text[done..]);
-        if got < 0 {
-            return Input::Failed;
+        match from.read(&mut text[done..]) {
+            Ok(0) => return Input::Bytes(done),
+            Ok(more) => {
+                done += more;
+            }
+            Err(_) => return Input::Failed,
         }
-        let more = io::count(got, &text[done..]);
-        if more == 0 {
-            return Input::Bytes(done);
-        }
-        done += more;
     }
     Input::Bytes(done)
 }
 
+// A sentence to standard error. Where that is closed too, nobody is left to tell.
+fn tell(rt: &HostRuntime, what: &[u8]) {
+    let _ = rt.stderr().write_all(what);
+}
+
 // The answer to standard output, and nothing else there.
-fn write_answer(text: &[u8]) {
+fn write_answer(rt: &HostRuntime, text: &[u8]) {
     let mut out = [0u8; limit::TEXT_BYTES];
     let size = output(text, &mut out);
-    let all_written = io::write_all(STDOUT_FILENO, &out[..size]);
-    if !all_written {
-        io::write_all(STDERR_FILENO, b"fill: standard output cannot be written\n");
+    if rt.stdout().write_all(&out[..size]).is_err() {
+        tell(rt, b"fill: standard output cannot be written\n");
     }
 }
 
-fn main() {
+fn main(rt: HostRuntime) {
     // One byte more than a text may have: with that byte in, it is refused whatever follows.
     let mut text = [0u8; limit::TEXT_BYTES + 1];
-    match read_text(&mut text) {
-        Input::Bytes(n) => write_answer(&text[..n]),
-        Input::Failed => {
-            io::write_all(STDERR_FILENO, b"fill: standard input cannot be read\n");
-        }
+    match read_text(&mut rt.stdin(), &mut text) {
+        Input::Bytes(n) => write_answer(&rt, &text[..n]),
+        Input::Failed => tell(&rt, b"fill: standard input cannot be read\n"),
     }
 }

@@ -2,10 +2,12 @@
 // differ from those stored. What the bytes of the files mean: data/README.md.
 #![tactic(auto)]
 
-use export_packed::class;
+ghost use Rattle.std.specs.Prelude.{◌≤◌, length, IfOk};
 
-// Standard output.
-const OUT: i32 = 1;
+use export_packed::class;
+use std::fs::File;
+use std::io;
+use std::io::{Print, Read};
 
 // More bytes than a file has, more words than a table has.
 const FILE_BYTES: usize = 300000;
@@ -187,47 +189,59 @@ fn one_more(n: u32) -> u32 {
     if n < 4294967295 { n + 1 } else { n }
 }
 
-fn tell(what: &[u8], n: u32) {
-    io::write_all(OUT, what);
-    io::print_decimal(OUT, n as u64);
-    io::write_all(OUT, b"\n");
+fn tell(out: &impl Print, what: &[u8], n: u32) -> io::Result<()> {
+    out.write_all(what)?;
+    out.println(n)
 }
 
 // A verdict in words: bits 16 to 31 are its class, bits 0 to 15 its value.
-fn tell_verdict(verdict: u32) {
+fn tell_verdict(out: &impl Print, verdict: u32) -> io::Result<()> {
     let class = (verdict >> 16) as u16;
     let value = verdict % 65536;
     if class == class::INSIDE {
-        io::write_all(OUT, b"allowed inside one domain\n");
+        out.write_all(b"allowed inside one domain\n")
     } else if class == class::GRANTED {
-        tell(b"allowed by entry ", value);
+        tell(out, b"allowed by entry ", value)
     } else if class == class::VIOLATION {
-        tell(b"violation ", value);
+        tell(out, b"violation ", value)
     } else {
-        tell(b"refused, ", value);
+        tell(out, b"refused, ", value)
     }
 }
 
 // The events of a table; aloud, each verdict is told.
-fn replay_events(file: &[u8], at: &mut usize, table: &[u16], aloud: bool, tally: Tally) -> Tally {
+fn replay_events(
+    out: &impl Print,
+    file: &[u8],
+    at: &mut usize,
+    table: &[u16],
+    aloud: bool,
+    tally: Tally,
+) -> io::Result<Tally> {
     let events = long(file, at);
     let mut now = tally;
     let mut i: u32 = 0;
     while i < events {
         let verdict = judged(file, at, table);
         if aloud {
-            tell_verdict(verdict);
+            tell_verdict(out, verdict)?;
         }
         now = now.with(verdict == long(file, at));
         i += 1;
     }
-    now
+    Ok(now)
 }
 
-fn replay_table(file: &[u8], at: &mut usize, aloud: bool, tally: Tally) -> Tally {
+fn replay_table(
+    out: &impl Print,
+    file: &[u8],
+    at: &mut usize,
+    aloud: bool,
+    tally: Tally,
+) -> io::Result<Tally> {
     let mut table = [0u16; TABLE_WORDS];
     let size = read_table(file, at, &mut table);
-    replay_events(file, at, table::part(&table, 0, size), aloud, tally)
+    replay_events(out, file, at, table::part(&table, 0, size), aloud, tally)
 }
 
 // The report with so many words of the witness lent.
@@ -456,21 +470,27 @@ enum Cases {
     Findings,
 }
 
-fn replay_case(cases: Cases, file: &[u8], at: &mut usize, tally: Tally) -> Tally {
+fn replay_case(
+    out: &impl Print,
+    cases: Cases,
+    file: &[u8],
+    at: &mut usize,
+    tally: Tally,
+) -> io::Result<Tally> {
     match cases {
-        Cases::Trials => replay_table(file, at, true, tally),
-        Cases::Events => replay_table(file, at, false, tally),
-        Cases::Reports => replay_report(file, at, tally),
-        Cases::Pages => replay_page(file, at, tally),
-        Cases::Readings => replay_reading(file, at, tally),
-        Cases::Fillings => replay_filling(file, at, tally),
-        Cases::Names => replay_name(file, at, tally),
-        Cases::Listings => replay_listing(file, at, tally),
-        Cases::Findings => replay_finding(file, at, tally),
+        Cases::Trials => replay_table(out, file, at, true, tally),
+        Cases::Events => replay_table(out, file, at, false, tally),
+        Cases::Reports => Ok(replay_report(file, at, tally)),
+        Cases::Pages => Ok(replay_page(file, at, tally)),
+        Cases::Readings => Ok(replay_reading(file, at, tally)),
+        Cases::Fillings => Ok(replay_filling(file, at, tally)),
+        Cases::Names => Ok(replay_name(file, at, tally)),
+        Cases::Listings => Ok(replay_listing(file, at, tally)),
+        Cases::Findings => Ok(replay_finding(file, at, tally)),
     }
 }
 
-fn replay_cases(cases: Cases, file: &[u8]) -> Tally {
+fn replay_cases(out: &impl Print, cases: Cases, file: &[u8]) -> io::Result<Tally> {
     let mut at: usize = 0;
     let count = long(file, &mut at);
     let mut tally = Tally {
@@ -479,78 +499,114 @@ fn replay_cases(cases: Cases, file: &[u8]) -> Tally {
     };
     let mut i: u32 = 0;
     while i < count {
-        tally = replay_case(cases, file, &mut at, tally);
+        tally = replay_case(out, cases, file, &mut at, tally)?;
         i += 1;
     }
-    tally
+    Ok(tally)
 }
 
-fn replay(room: &mut [u8], name: &[u8], cases: Cases, done: &[u8]) {
-    let n = io::read_full(os::open_read(name), room);
-    let tally = replay_cases(cases, &room[..n]);
-    io::print_decimal(OUT, tally.cases as u64);
-    io::write_all(OUT, done);
-    io::print_decimal(OUT, tally.differ as u64);
-    io::write_all(OUT, b" answers differ\n");
+// A file, to its end or until the room is full. Tells how many bytes it has.
+fn read_file(from: &mut impl Read, room: &mut [u8]) -> io::Result<usize>
+    ensures { IfOk result (λ n. n ≤ length room.new) }
+{
+    let mut done: usize = 0;
+    while done < room.len() {
+        let more = from.read(&mut room[done..])?;
+        if more == 0 {
+            return Ok(done);
+        }
+        done += more;
+    }
+    Ok(done)
+}
+
+fn replay(
+    rt: &HostRuntime,
+    room: &mut [u8],
+    name: &str,
+    cases: Cases,
+    done: &[u8],
+) -> io::Result<()> {
+    let mut file = File::open(rt, name)?;
+    let n = read_file(&mut file, room)?;
+    let out = rt.stdout();
+    let tally = replay_cases(&out, cases, &room[..n])?;
+    out.print(tally.cases)?;
+    out.write_all(done)?;
+    out.print(tally.differ)?;
+    out.write_all(b" answers differ\n")
 }
 
 // What is asked of tables, of texts and of names: a function each, since a proof of one with nine calls is long.
-fn replay_of_tables(room: &mut [u8]) {
-    replay(room, b"trials.cases", Cases::Trials, b" trials judged, ");
+fn replay_of_tables(rt: &HostRuntime, room: &mut [u8]) -> io::Result<()> {
+    replay(rt, room, "trials.cases", Cases::Trials, b" trials judged, ")?;
     replay(
+        rt,
         room,
-        b"judge.cases",
+        "judge.cases",
         Cases::Events,
         b" stored events judged, ",
-    );
+    )?;
     replay(
+        rt,
         room,
-        b"overlap.cases",
+        "overlap.cases",
         Cases::Reports,
         b" stored tables reported on, ",
-    );
+    )
 }
 
-fn replay_of_texts(room: &mut [u8]) {
-    replay(room, b"page.cases", Cases::Pages, b" stored pages read, ");
+fn replay_of_texts(rt: &HostRuntime, room: &mut [u8]) -> io::Result<()> {
     replay(
+        rt,
         room,
-        b"read.cases",
+        "page.cases",
+        Cases::Pages,
+        b" stored pages read, ",
+    )?;
+    replay(
+        rt,
+        room,
+        "read.cases",
         Cases::Readings,
         b" stored texts read into tables, ",
-    );
+    )?;
     replay(
+        rt,
         room,
-        b"fill.cases",
+        "fill.cases",
         Cases::Fillings,
         b" stored texts filled out, ",
-    );
+    )
 }
 
-fn replay_of_names(room: &mut [u8]) {
+fn replay_of_names(rt: &HostRuntime, room: &mut [u8]) -> io::Result<()> {
     replay(
+        rt,
         room,
-        b"name.cases",
+        "name.cases",
         Cases::Names,
         b" stored names looked up, ",
-    );
+    )?;
     replay(
+        rt,
         room,
-        b"list.cases",
+        "list.cases",
         Cases::Listings,
         b" stored texts listed, ",
-    );
+    )?;
     replay(
+        rt,
         room,
-        b"find.cases",
+        "find.cases",
         Cases::Findings,
         b" stored names searched for, ",
-    );
+    )
 }
 
-fn main() {
+fn main(rt: HostRuntime) -> io::Result<()> {
     let mut room = [0u8; FILE_BYTES];
-    replay_of_tables(&mut room);
-    replay_of_texts(&mut room);
-    replay_of_names(&mut room);
+    replay_of_tables(&rt, &mut room)?;
+    replay_of_texts(&rt, &mut room)?;
+    replay_of_names(&rt, &mut room)
 }

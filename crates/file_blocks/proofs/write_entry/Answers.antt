@@ -39,8 +39,11 @@ slice_bounds-write_grant-end-2 c = let context = c.write_context.ensures in
 pub write_grant-requires-2 : goal.write_grant-requires-2
 write_grant-requires-2 c = let context = c.write_context.ensures in
     let counts = c.write_counts.ensures in
-    let calls = c.write_grant.ensures in record { to_in_bounds = (fields_within _ _ _ c.requires.n_in_bounds.0 c.requires.n_in_bounds.1, starts_within _ _ _ c.requires.n_in_bounds.1 c.requires.worded.room); out_value = returns_zero _ _ _ _ _ _ _ c.requires.n_in_bounds.1 c.requires.worded c.requires.to_len_bound _ _ c.requires.out_value context _ _ _ counts c.requires.mapped
-          c.requires.n_value _ calls }
+    let calls = c.write_grant.ensures in record {
+      to_in_bounds = (fields_within _ _ _ c.requires.n_in_bounds.0 c.requires.n_in_bounds.1, starts_within _ _ _ c.requires.n_in_bounds.1 c.requires.worded.room);
+      out_value = returns_zero _ _ _ _ _ _ _ c.requires.n_in_bounds.1 c.requires.worded c.requires.to_len_bound _ _ c.requires.out_value context _ _ _ counts c.requires.mapped
+          c.requires.n_value _ calls;
+    }
 
 pub returns : goal.returns
 returns c = let context = c.write_context.ensures in

@@ -18,6 +18,6 @@ overflow_add-result-2 c = let args = c.args in
 
 pub returns : goal.returns
 returns c = let args = c.args in (
-      refl,
-      omega (arith, byte_product _ args.step (c.shared_slice_known-1.given args.i) c.requires.1, c.shared_slice_known-2-1.given (args.i + 1)),
-    )
+  refl,
+  omega (arith, byte_product _ args.step (c.shared_slice_known-1.given args.i) c.requires.1, c.shared_slice_known-2-1.given (args.i + 1)),
+)

@@ -11,14 +11,14 @@ returns-then-left-eq0 c = search (rules, among_here)
 
 pub loop-i-preserved : goal.loop-i-preserved
 loop-i-preserved c = search (
-      rules,
-      among_next,
-      c.loop-i.invariant,
-      c.loop-i-test.true,
-      c.place_of.ensures,
-      c.if-place_of-place.false,
-      c.if-left-eq0.false,
-    )
+  rules,
+  among_next,
+  c.loop-i.invariant,
+  c.loop-i-test.true,
+  c.place_of.ensures,
+  c.if-place_of-place.false,
+  c.if-left-eq0.false,
+)
 
 pub returns : goal.returns
 returns c = search (rules, among_none)

@@ -39,7 +39,8 @@ returns-then-twice-ne-NO_LINE c = let over = c.over_limit-over.ensures in
 pub read_named-requires : goal.read_named-requires
 read_named-requires c = let over = c.over_limit-over.ensures in
     let none = c.if-over-ne-NO_LINE.false in
-    let once = c.if-twice-ne-NO_LINE.false in record { numbered = record {
+    let once = c.if-twice-ne-NO_LINE.false in record {
+      numbered = record {
         sound = c.requires.sound;
         few = c.requires.n_le_most_fields;
         readable = c.requires.readable;
@@ -48,7 +49,9 @@ read_named-requires c = let over = c.over_limit-over.ensures in
         of_subjects = subjects_known _ _ once _ _ _ _ c.index_names-names.ensures.maps c.index_names-names.ensures.distinct;
         of_functions = functions_known _ _ once _ _ _ _ c.index_names-names.ensures.maps;
         worded = c.index_names-names.ensures.worded once;
-      }; cleared = c.requires.cleared }
+      };
+      cleared = c.requires.cleared;
+    }
 
 pub returns : goal.returns
 returns c = let over = c.over_limit-over.ensures in

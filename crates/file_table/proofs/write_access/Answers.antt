@@ -26,10 +26,10 @@ returns-then-is_all c = search (rules, all_filled)
 
 pub write_items-requires-clause-to_in_bounds : goal.write_items-requires-clause-to_in_bounds
 write_items-requires-clause-to_in_bounds c = items_room _
-            c.requires.access _ _ _ _ _
-            c.value_at-v.ensures _ c.is_all.ensures
-            c.args.out.now
-            c.requires.to_in_bounds c.if-is_all.false
+    c.requires.access _ _ _ _ _
+    c.value_at-v.ensures _ c.is_all.ensures
+    c.args.out.now
+    c.requires.to_in_bounds c.if-is_all.false
 
 pub returns : goal.returns
 returns c = search (rules, items_filled)

@@ -30,8 +30,8 @@ write_access-writes-requires-clause-out_value c = search (rules, writes_unwritte
 
 pub write_access-writes-requires-clause-to_in_bounds : goal.write_access-writes-requires-clause-to_in_bounds
 write_access-writes-requires-clause-to_in_bounds c = writes_room _ _ _ _ _ _
-            c.requires.to_in_bounds _ _
-            c.write_access-reads.ensures
+    c.requires.to_in_bounds _ _
+    c.write_access-reads.ensures
 
 pub overflow_add-result : goal.overflow_add-result
 overflow_add-result c = let h = both_fit _ c.args.out.now _

@@ -24,25 +24,25 @@ write_privileges-entries-requires-clause-bounded c = search (rules, file_bounded
 
 pub write_privileges-entries-requires-clause-out_len : goal.write_privileges-entries-requires-clause-out_len
 write_privileges-entries-requires-clause-out_len c = (
-      search (rules, privileges_long),
-      privileges_unwritten _ c.requires.n_value.0 c.requires.n_value.1
-          c.args.table.now
-          c.requires.table_words_in_bounds.0
-          c.requires.table_words_in_bounds.1 _
-          c.write_maps-members.ensures.out_after,
-    )
+  search (rules, privileges_long),
+  privileges_unwritten _ c.requires.n_value.0 c.requires.n_value.1
+      c.args.table.now
+      c.requires.table_words_in_bounds.0
+      c.requires.table_words_in_bounds.1 _
+      c.write_maps-members.ensures.out_after,
+)
 
 pub write_head-requires-clause-object_domains_le_most_domains : goal.write_head-requires-clause-object_domains_le_most_domains
 write_head-requires-clause-object_domains_le_most_domains c = (search rules, search rules)
 
 pub write_head-requires-clause-objects_le_most_members : goal.write_head-requires-clause-objects_le_most_members
 write_head-requires-clause-objects_le_most_members c = (
-      members_few _ _ c.write_maps-members.ensures.value
-          c.requires.n_value.0 c.requires.n_value.1,
-      search rules,
-      entries_few _ _ c.write_privileges-entries.ensures.value
-          c.requires.n_value.0 c.requires.n_value.1,
-    )
+  members_few _ _ c.write_maps-members.ensures.value
+      c.requires.n_value.0 c.requires.n_value.1,
+  search rules,
+  entries_few _ _ c.write_privileges-entries.ensures.value
+      c.requires.n_value.0 c.requires.n_value.1,
+)
 
 pub write_head-requires-clause-out_value : goal.write_head-requires-clause-out_value
 write_head-requires-clause-out_value c = search (rules, head_unwritten)

@@ -41,8 +41,7 @@ loop-i-preserved c = let turn = c.loop-i in
     let first = c.args.starts.now in
     let room = c.requires.n_bound in
     let spaced = c.requires.n_value in
-    let below = c.loop-i-test.true in
-    (
+    let below = c.loop-i-test.true in (
       search rules,
       words_long _ _ _ _ _ _ turn.words start below inv.1 inv.3 room.0 spaced _ c.field_words-w.ensures.value _ c.field_words-w.ensures.out_after,
       search rules,

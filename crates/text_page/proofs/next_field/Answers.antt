@@ -24,18 +24,18 @@ returns-in-Field-clause-value c = search (rules, next_field)
 pub returns-in-Field-clause-c_value : goal.returns-in-Field-clause-c_value
 unfolding next_left page_left
 returns-in-Field-clause-c_value c = (
-    search (rules, page_field),
-    (
-      search (rules, start_end),
-      search (rules, part_to),
-      search (rules, walk_further),
-      search (rules, walk_stays),
-      search (rules, walk_line),
-      search (rules, walk_value),
-      search (rules, line_within),
-      search (rules, walk_listed),
-    ),
-  )
+  search (rules, page_field),
+  (
+    search (rules, start_end),
+    search (rules, part_to),
+    search (rules, walk_further),
+    search (rules, walk_stays),
+    search (rules, walk_line),
+    search (rules, walk_value),
+    search (rules, line_within),
+    search (rules, walk_listed),
+  ),
+)
 
 pub returns-in-Stop : goal.returns-in-Stop
 unfolding next_left page_left
