@@ -12,8 +12,8 @@ to = $(DESTDIR)$(PREFIX)
 
 all: $(program)
 
-$(library): $(shell find crates crates.txt -type f)
-	rt staticlib export
+$(library): $(shell find crates crates.txt -name out -prune -o -type f -print) command/library
+	command/library
 	touch $@
 
 $(program): $(library) include/dovetenon.h command/build $(wildcard command/*.c command/*.h)
