@@ -1,6 +1,6 @@
 /* Dovetenon's proved functions, for C and for whatever calls C.
 
-   `rt staticlib export` writes them to target/staticlib/libexport.a, for
+   `command/library` writes them to target/staticlib/libexport.a, for
    x86-64. docs/PROMISES.md says what is proved of each, docs/TABLE.md what the
    words of a table are; include/example.c calls them.
 

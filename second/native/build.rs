@@ -1,4 +1,4 @@
-//! Links the library that `rt staticlib export` writes, or the one in DOVETENON_LIBRARY.
+//! Links the library that `command/library` writes, or the one in DOVETENON_LIBRARY.
 
 use std::path::Path;
 
