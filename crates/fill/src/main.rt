@@ -6,7 +6,7 @@ ghost use Rattle.fill.specs.Input.{Within};
 
 use fill_output::output;
 use paper::limit;
-use std::io::{Print, Read, Stderr, Stdout};
+use std::io::{Print, Read};
 
 // What came: so many bytes, or a read that failed.
 #[derive(Clone, Copy)]
