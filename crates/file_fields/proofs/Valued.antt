@@ -12,7 +12,7 @@ use lib.Seq.{drop-drop}
 use borrow.Author.Tests.{eqb-true, eqb-false, eq-eqb, ne_eqb, lt-ltb, le-ltb}
 use Rattle.paper.specs.Common.{is_empty, is, cut, on_piece}
 use Rattle.paper.specs.Text.{comma, space}
-use Rattle.paper.specs.Scalars.{root, user, sort_number, sort_of}
+use Rattle.paper.specs.Scalars.{sort_number, sort_of}
 use Rattle.paper.specs.Lists.{bracketed, inside, spaced, unspaced, elements_in, elements}
 use Rattle.paper.specs.Rules.{earlier}
 use Rattle.laws.proofs.Tests.{both_left, both_right}

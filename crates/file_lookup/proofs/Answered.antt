@@ -1,5 +1,5 @@
 -- What name lookup answers, step by step: by the page, by the rules, then among the names; and that it lies in the text.
-use mathlib.Core.Path.{◌≡◌, refl, sym, ◌∙◌}
+use mathlib.Core.Path.{◌≡◌, refl, ◌∙◌}
 use mathlib.Core.List.{List}
 use Prim.Native.Nat.{ℕ}
 use native.Mathlib.Omega.{arith}
@@ -7,11 +7,11 @@ use borrow.Rule.Slice.Shared.{by_byte}
 use Rattle.paper.specs.declared.Map.{Map}
 use Rattle.paper.specs.declared.Reading.{Reading}
 use Rattle.paper.specs.declared.Reading.TheVariants.{Accepted, Unread}
-use Rattle.paper.specs.Page.{Field, Outcome, fields, fault}
+use Rattle.paper.specs.Page.{Field}
 use Rattle.paper.specs.Entries.{fields_at}
 use Rattle.paper.specs.Rules.{ruled}
 use Rattle.paper.specs.Lookup.{Stretch, names_of, name_among, name_in, VeryStretch}
-use Rattle.paper.specs.Promises.{text_page, file_of, reading_of, lookup_answer}
+use Rattle.paper.specs.Promises.{text_page, reading_of, lookup_answer}
 use Rattle.file_fields.specs.Fields.{between}
 use Rattle.file_fields.specs.Listed.{found_in}
 use Rattle.file_fields.specs.declared.Found.{Found}

@@ -7,7 +7,7 @@ use mir.Syntax.{w64}
 use mir.Val as val
 use lib.ListN.{length, take, drop, length-append, length-drop, drop_of_length-le}
 use lib.Seq.{take_at, drop_at, take_all, drop-drop}
-use Rattle.filled_lines.specs.Wrote.{Fits, Wrote}
+use Rattle.filled_lines.specs.Wrote.{Wrote}
 
 -- what is lent from a place on, and the whole with that part put back
 abbrev pub left : List ℕ → ℕ → List ℕ

@@ -10,7 +10,7 @@ use lib.Dec.{eqb}
 use borrow.Author.Tests.{lt-ltb, le-ltb}
 use Rattle.paper.specs.Common.{all_of}
 use Rattle.paper.specs.Table.{first_domain_word, element_in}
-use Rattle.paper.specs.Match.{lies_in, swallowing, first_meets, matches, is_all}
+use Rattle.paper.specs.Match.{lies_in, first_meets, matches, is_all}
 use Rattle.laws.specs.Frames.{meets_frame}
 use Rattle.laws.proofs.Places.{drop_more}
 use Rattle.laws.proofs.Chains.{tested_false, tested_true}

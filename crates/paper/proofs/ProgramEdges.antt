@@ -1,8 +1,7 @@
 -- What the program writes: numbers at the edges of their digits, the refusal of each text, and the filled text (document 01, "The pieces": "the filled
 -- text, or the refusal number and line as `4 12` and LF"; that 2 and 31 are written `2 0` and `31 0` is point 22 of docs/DECISIONS.md).
-use Prim.Native.Nat.{ℕ}
 use mathlib.Core.Path.{◌≡◌, refl}
-use mathlib.Core.List.{List, [], ◌∷◌, ◌++◌, map}
+use mathlib.Core.List.{[], ◌∷◌, ◌++◌, map}
 use lib.ListN.{replicate}
 use Rattle.paper.specs.declared.Filling.TheVariants.{Unfilled}
 use Rattle.paper.specs.Common.{bytes}

@@ -29,7 +29,11 @@ slice_bounds-write_grant-end c = let context = c.write_context.ensures in
     objects_room _ _ _ _ _ _ _ c.requires.n_in_bounds.1 c.requires.worded _ c.requires.access c.requires.to_len_bound _ _ c.requires.out_value context
 
 pub write_grant-requires : goal.write_grant-requires
-write_grant-requires c = let context = c.write_context.ensures in record { to_in_bounds = (fields_within _ _ _ c.requires.n_in_bounds.0 c.requires.n_in_bounds.1, starts_within _ _ _ c.requires.n_in_bounds.1 c.requires.worded.room); out_value = objects_zero _ _ _ _ _ _ _ c.requires.n_in_bounds.1 c.requires.worded _ c.requires.access c.requires.to_len_bound _ _ c.requires.out_value context }
+write_grant-requires c = let context = c.write_context.ensures in
+    record {
+      to_in_bounds = (fields_within _ _ _ c.requires.n_in_bounds.0 c.requires.n_in_bounds.1, starts_within _ _ _ c.requires.n_in_bounds.1 c.requires.worded.room);
+      out_value = objects_zero _ _ _ _ _ _ _ c.requires.n_in_bounds.1 c.requires.worded _ c.requires.access c.requires.to_len_bound _ _ c.requires.out_value context;
+    }
 
 pub returns : goal.returns
 returns c = let context = c.write_context.ensures in

@@ -28,7 +28,11 @@ slice_bounds-write_grant-end c = let context = c.write_context.ensures in
 
 pub write_grant-requires : goal.write_grant-requires
 write_grant-requires c = let context = c.write_context.ensures in
-    let counts = c.write_counts.ensures in record { to_in_bounds = (fields_within _ _ _ c.requires.n_in_bounds.0 c.requires.n_in_bounds.1, starts_within _ _ _ c.requires.n_in_bounds.1 c.requires.worded.room); out_value = calls_zero _ _ _ _ _ _ _ c.requires.n_in_bounds.1 c.requires.worded c.requires.to_len_bound _ _ c.requires.out_value context _ _ _ counts }
+    let counts = c.write_counts.ensures in
+    record {
+      to_in_bounds = (fields_within _ _ _ c.requires.n_in_bounds.0 c.requires.n_in_bounds.1, starts_within _ _ _ c.requires.n_in_bounds.1 c.requires.worded.room);
+      out_value = calls_zero _ _ _ _ _ _ _ c.requires.n_in_bounds.1 c.requires.worded c.requires.to_len_bound _ _ c.requires.out_value context _ _ _ counts;
+    }
 
 pub slice_bounds-write_grant-end-2 : goal.slice_bounds-write_grant-end-2
 slice_bounds-write_grant-end-2 c = let context = c.write_context.ensures in

@@ -34,7 +34,11 @@ refused-requires-then-twice-ne-NO_LINE c = search (rules, twice_fits)
 pub returns-then-twice-ne-NO_LINE : goal.returns-then-twice-ne-NO_LINE
 returns-then-twice-ne-NO_LINE c = let over = c.over_limit-over.ensures in
     let none = c.if-over-ne-NO_LINE.false in
-    let twice = c.if-twice-ne-NO_LINE.true in record { value = twice_answers _ _ over none _ c.index_names-names.ensures.twice_value twice _ c.refused-then-twice-ne-NO_LINE.ensures; left = twice_leaves _ _ over none _ c.index_names-names.ensures.twice_value twice _ c.requires.cleared }
+    let twice = c.if-twice-ne-NO_LINE.true in
+    record {
+      value = twice_answers _ _ over none _ c.index_names-names.ensures.twice_value twice _ c.refused-then-twice-ne-NO_LINE.ensures;
+      left = twice_leaves _ _ over none _ c.index_names-names.ensures.twice_value twice _ c.requires.cleared;
+    }
 
 pub read_named-requires : goal.read_named-requires
 read_named-requires c = let over = c.over_limit-over.ensures in
@@ -57,4 +61,7 @@ pub returns : goal.returns
 returns c = let over = c.over_limit-over.ensures in
     let none = c.if-over-ne-NO_LINE.false in
     let once = c.if-twice-ne-NO_LINE.false in
-    record { value = named_answers _ _ over none _ c.index_names-names.ensures.twice_value once _ c.read_named.ensures.value; left = named_leaves _ _ over none _ c.index_names-names.ensures.twice_value once c.args.table.now _ c.read_named.ensures.left }
+    record {
+      value = named_answers _ _ over none _ c.index_names-names.ensures.twice_value once _ c.read_named.ensures.value;
+      left = named_leaves _ _ over none _ c.index_names-names.ensures.twice_value once c.args.table.now _ c.read_named.ensures.left;
+    }

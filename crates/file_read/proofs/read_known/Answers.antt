@@ -28,7 +28,14 @@ returns-then-table-lt-TABLE_WORDS c = search (rules, accepts, keeps)
 
 pub write_table-requires : goal.write_table-requires
 write_table-requires c = let given = c.requires.numbered in
-    let room = c.if-table-lt-TABLE_WORDS.false in record { n_in_bounds = (given.sound.room, given.few); worded = given.worded; of_objects = (given.of_objects, given.of_subjects, given.of_functions); n_value = (given.readable.numbered, given.within); table_words_in_bounds = (room, c.requires.cleared.clear room) }
+    let room = c.if-table-lt-TABLE_WORDS.false in
+    record {
+      n_in_bounds = (given.sound.room, given.few);
+      worded = given.worded;
+      of_objects = (given.of_objects, given.of_subjects, given.of_functions);
+      n_value = (given.readable.numbered, given.within);
+      table_words_in_bounds = (room, c.requires.cleared.clear room);
+    }
 
 pub returns : goal.returns
 returns c = search (rules, accepts, writes)

@@ -6,7 +6,12 @@ use Rattle.file_read.proofs.read_named.Goals as goal
 
 pub unknown_line-unknown-requires : goal.unknown_line-unknown-requires
 unknown_line-unknown-requires c = let given = c.requires.numbered in
-    record { n_in_bounds = given.sound.room; mapped = given.of_subjects.index; objects_value = (given.of_objects.counted, functions_few _ _ given.of_functions); worded = given.worded }
+    record {
+      n_in_bounds = given.sound.room;
+      mapped = given.of_subjects.index;
+      objects_value = (given.of_objects.counted, functions_few _ _ given.of_functions);
+      worded = given.worded;
+    }
 
 pub refused-requires : goal.refused-requires
 refused-requires c = search (rules, unknown_fits, c.requires.numbered.readable)

@@ -11,7 +11,11 @@ pub returns-then-moment_fits : goal.returns-then-moment_fits
 returns-then-moment_fits c = search (rules, code_allowed)
 
 pub loop-k-preserved : goal.loop-k-preserved
-loop-k-preserved c = elim c.if-code_granted.branch [ then-code_granted+else-moment_fits w ↦ search (rules, code_not_matched) | else-code_granted w ↦ search (rules, code_not_granted) ]
+loop-k-preserved c =
+    elim c.if-code_granted.branch [
+      | then-code_granted+else-moment_fits w ↦ search (rules, code_not_matched)
+      | else-code_granted w ↦ search (rules, code_not_granted)
+    ]
 
 pub returns : goal.returns
 returns c = search (rules, code_ends)

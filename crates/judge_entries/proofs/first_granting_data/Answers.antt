@@ -1,7 +1,7 @@
 -- The loop: the entries that are left decide as those from the first match on do.
 use Rattle.std.proofs.Common.{rules}
 use Rattle.table.proofs.Laws.{sum_again, both_counts}
-use Rattle.judge_entries.proofs.Passes.{granted_has_it, left, count_of_entry, data_ends, data_not_granted, data_not_matched, data_allowed}
+use Rattle.judge_entries.proofs.Passes.{granted_has_it, count_of_entry, data_ends, data_not_granted, data_not_matched, data_allowed}
 use Rattle.judge_entries.proofs.first_granting_data.Goals as goal
 use Rattle.judge_entries.proofs.first_granting_data.Goals.{else-data_granted, then-data_granted+else-moment_fits}
 
@@ -21,7 +21,10 @@ loop-k-preserved c = let counted = c.count-entries.ensures.0 in
     let placed = c.requires.placed in (
       search (rules, sum_again, both_counts),
       search rules,
-      elim c.if-data_granted.branch [ then-data_granted+else-moment_fits w ↦ data_not_matched _ _ _ _ _ _ _ counted same below _ w.moment_fits.ensures w.if-moment_fits.false | else-data_granted w ↦ data_not_granted _ _ _ _ _ _ _ counted same below placed _ c.data_granted.ensures w.if-data_granted.false ],
+      elim c.if-data_granted.branch [
+        | then-data_granted+else-moment_fits w ↦ data_not_matched _ _ _ _ _ _ _ counted same below _ w.moment_fits.ensures w.if-moment_fits.false
+        | else-data_granted w ↦ data_not_granted _ _ _ _ _ _ _ counted same below placed _ c.data_granted.ensures w.if-data_granted.false
+      ],
     )
 
 pub returns : goal.returns

@@ -16,7 +16,10 @@ returns-then-moment_fits c = search (rules, matches_here)
 pub loop-k-preserved : goal.loop-k-preserved
 loop-k-preserved c = (
   search rules,
-  elim c.if-has_subject.branch [ then-has_subject+else-moment_fits w ↦ search (rules, matches_later_lem) | else-has_subject w ↦ search (rules, not_its_subject) ],
+  elim c.if-has_subject.branch [
+    | then-has_subject+else-moment_fits w ↦ search (rules, matches_later_lem)
+    | else-has_subject w ↦ search (rules, not_its_subject)
+  ],
 )
 
 pub returns : goal.returns

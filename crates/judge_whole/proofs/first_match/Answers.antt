@@ -21,7 +21,10 @@ loop-k-preserved c = let counted = c.count-entries.ensures.0 in
     let same = c.loop-k.invariant.1 in
     let below = c.loop-k-test.true in (
       search rules,
-      elim c.if-may_match.branch [ then-may_match+else-moment_fits w ↦ search (rules, matches_later_lem) | else-may_match w ↦ filtered _ _ _ _ _ _ _ _ _ counted same below c.requires.placed c.requires.functions_value base top c.may_match.ensures.1 w.if-may_match.false ],
+      elim c.if-may_match.branch [
+        | then-may_match+else-moment_fits w ↦ search (rules, matches_later_lem)
+        | else-may_match w ↦ filtered _ _ _ _ _ _ _ _ _ counted same below c.requires.placed c.requires.functions_value base top c.may_match.ensures.1 w.if-may_match.false
+      ],
     )
 
 pub returns : goal.returns

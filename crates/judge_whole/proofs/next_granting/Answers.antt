@@ -15,7 +15,13 @@ word-writes-requires c = search (rules, word_there)
 
 pub may_grant-requires : goal.may_grant-requires
 may_grant-requires c = let inv = c.loop-k.invariant in
-    let whole = c.requires.whole in record { access_value = search rules; k_le_word_values = (search rules, inv.1.stands, inv.0); reads_value = (search (rules, count_of_entry), search (rules, count_of_entry), search rules); k_in_bounds = (search (rules, entry_there), whole.few, listed_data _ _ c.requires.access_value.0 whole) }
+    let whole = c.requires.whole in
+    record {
+      access_value = search rules;
+      k_le_word_values = (search rules, inv.1.stands, inv.0);
+      reads_value = (search (rules, count_of_entry), search (rules, count_of_entry), search rules);
+      k_in_bounds = (search (rules, entry_there), whole.few, listed_data _ _ c.requires.access_value.0 whole);
+    }
 
 pub returns-then-may_grant : goal.returns-then-may_grant
 returns-then-may_grant c = c.loop-k.invariant.1

@@ -8,7 +8,10 @@ pub returns-in-BothAll : goal.returns-in-BothAll
 returns-in-BothAll c = let told = c.in-BothAll.is in
     let low = c.only_if-frame.ensures.by_index _ _ in
     let better = c.better_of-best.ensures.result_value in
-    record { result_value = cell_both_all _ _ _ _ _ _ _ _ _ _ _ told c.better_of.ensures.result_value better c.stack_of-one.ensures.result_value c.stack_of-other.ensures.result_value low; ahead = search rules }
+    record {
+      result_value = cell_both_all _ _ _ _ _ _ _ _ _ _ _ told c.better_of.ensures.result_value better c.stack_of-one.ensures.result_value c.stack_of-other.ensures.result_value low;
+      ahead = search rules;
+    }
 
 pub returns-in-OneAll-clause-result_value : goal.returns-in-OneAll-clause-result_value
 returns-in-OneAll-clause-result_value c = search (rules, cell_one_all, c.in_front-kept.ensures.by_index)
