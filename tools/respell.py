@@ -5,7 +5,8 @@
     python3 tools/respell.py                once, after it
 
 Names that files of specs/ and proofs/ declare lose their dashes and capitals within: `matchesLater` becomes `matches_later`.
-Where two names would fall together, the definition of specs/ keeps the plain name, and a lemma gets `_lem` behind it.
+Where two names would fall together, the definition of specs/ keeps the plain name, and a lemma gets `_lem` behind it; a
+constructor or a field gets a name of its own (MEMBERS).
 Types, modules, names of src/ and the goals that a function's own proof file answers stay as they are.
 The texts of edits are respelled too. Prints each name that met another."""
 import collections
@@ -20,6 +21,48 @@ RECORD = re.compile(r"^( *)(?:pub )?record [^\n]*where\n", re.M)
 LIBRARY = re.compile(r"^use (?:Rattle\.std|borrow|lib|mathlib|native|Prim)\b[^\n{]*\{([^}]*)\}", re.M)
 OF_FUNCTION = re.compile(r"/proofs/.+/(?:Proof|Answers|Invariants)\.antt$")
 
+# Constructors and fields that met a definition, as the rule for lemmas would spell them: in these files, where such words stand
+# before them, they are these.
+REFUSALS = {
+    "over_limit": "count_over_limit",
+    "named_twice": "name_twice",
+    "unknown_name": "name_unknown",
+    "unbound_variable": "variable_unbound",
+    "twin_principal": "principal_twin",
+}
+LAWS = "crates/laws_file"
+MEMBERS = [
+    *(
+        (file, rf"(?<!\.)(?<![\w-]){name}_lem\b", new)
+        for name, new in REFUSALS.items()
+        for file in (f"{LAWS}/specs/AtFault.antt", f"{LAWS}/proofs/Accepted.antt", f"{LAWS}/refused/seven_before_six.edit", "crates/fill_output/proofs/NeverThirty.antt")
+    ),
+    *(
+        (file, rf"((?:OverLimit\.|^  )){name}_domains_lem\b", rf"\1domains_of_{name}s")
+        for name in ("object", "subject")
+        for file in (f"{LAWS}/specs/Rules.antt", f"{LAWS}/proofs/Counts.antt")
+    ),
+    (f"{LAWS}/specs/Rules.antt", r"^  named_twice_lem\b", "  twice_itself"),
+    (f"{LAWS}/proofs/Repeats.antt", r"NamesAgain\.named_twice_lem\b", "NamesAgain.twice_itself"),
+    *(
+        (file, rf"((?:NamesUnknown\.|^  )){name}_lem\b", rf"\1{new}")
+        for name, new in (("subject_of_entry", "entry_subject"), ("subject_domain", "listed_subject"), ("object_domain", "listed_object"))
+        for file in (f"{LAWS}/specs/Rules.antt", f"{LAWS}/proofs/Unknown.antt")
+    ),
+    (f"{LAWS}/specs/Rules.antt", r"\bon_line_lem\b", "unbound"),
+    (f"{LAWS}/proofs/InEntries.antt", r"\bon_line_lem\b", "unbound"),
+    *((f"{LAWS}/{file}.antt", rf"\b{name}_lem\b", name) for name in ("no_twins", "variables_bound") for file in ("specs/AtFault", "proofs/Accepted")),
+    ("crates/demands/specs/Answered.antt", r"\bno_line_lem\b", "lineless"),
+    ("crates/demands/proofs/Answered.antt", r"\bno_line_lem\b", "lineless"),
+    ("crates/demands/proofs/Exactly.antt", r"\bn\.no_line_lem\b", "n.lineless"),
+    ("crates/file_read/specs/Readable.antt", r"\bwell_spaced_lem\b", "spaced"),
+    ("crates/file_read/proofs/Pages.antt", r"\bwell_spaced_lem\b", "spaced"),
+    ("crates/file_read/proofs/Asked.antt", r"\bwell_spaced_lem\b", "spaced"),
+    ("crates/file_listing/proofs/Small.antt", r"\bwell_spaced_lem\b", "spaced"),
+    *(("crates/file_names/specs/Mapping.antt", rf"\b{name}_lem\b", name) for name in ("few_objects", "few_functions")),
+    *(("crates/file_names/proofs/Mapped.antt", rf"(maps\.|^      ){name}_lem\b", rf"\1{name}") for name in ("few_objects", "few_functions")),
+]
+
 
 def files(*endings):
     for folder, _, names in os.walk("crates"):
@@ -31,6 +74,11 @@ def files(*endings):
 def read(path):
     with open(path, encoding="utf-8") as f:
         return f.read()
+
+
+def write(path, text):
+    with open(path, "w", encoding="utf-8") as f:
+        f.write(text)
 
 
 def fields(text):
@@ -101,8 +149,9 @@ def main():
 
         turned = NAME.sub(spelled, text)
         if turned != text:
-            with open(path, "w", encoding="utf-8") as f:
-                f.write(turned)
+            write(path, turned)
+    for path, pattern, new in MEMBERS:
+        write(path, re.sub(pattern, new, read(path), flags=re.M))
 
 
 if __name__ == "__main__":

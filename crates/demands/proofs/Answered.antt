@@ -80,7 +80,7 @@ filler_answers t out = go (file_of t) refl
         (record {
           number = 31;
           line = no_line;
-          why = inr (record { file = fs; read = e; no_line_lem = refl; why = inl (record { number_31 = refl; long = ltb-true _ _ long }) });
+          why = inr (record { file = fs; read = e; lineless = refl; why = inl (record { number_31 = refl; long = ltb-true _ _ long }) });
           told = refl;
           untouched = refl;
         })
@@ -89,7 +89,7 @@ filler_answers t out = go (file_of t) refl
         (record {
           number = 30;
           line = no_line;
-          why = inr (record { file = fs; read = e; no_line_lem = refl; why = inr (record { number_30 = refl; not_long = ltb-false _ _ long; short = ltb-true _ _ short }) });
+          why = inr (record { file = fs; read = e; lineless = refl; why = inr (record { number_30 = refl; not_long = ltb-false _ _ long; short = ltb-true _ _ short }) });
           told = refl;
           untouched = refl;
         })

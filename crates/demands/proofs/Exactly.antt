@@ -68,10 +68,10 @@ module _ (t out : List ℕ) (a : Filling) (left : List ℕ) where
       (λ r. rw (refused_exactly t h.number h.line r) (h.told, h.untouched))
       (λ n.
       ⊎_elim
-      (λ (l : FilledTooLong n.file h.number). rw (n.read, lt-ltb _ _ l.long) (h.told ∙ rw (l.number_31, n.no_line_lem) refl, h.untouched))
+      (λ (l : FilledTooLong n.file h.number). rw (n.read, lt-ltb _ _ l.long) (h.told ∙ rw (l.number_31, n.lineless) refl, h.untouched))
       (λ (s : OutputTooShort n.file out h.number).
       rw (n.read, le-ltb text_bytes (length (filled_text n.file)) s.not_long, lt-ltb (length out) (length (filled_text n.file)) s.short)
-      (h.told ∙ rw (s.number_30, n.no_line_lem) refl, h.untouched))
+      (h.told ∙ rw (s.number_30, n.lineless) refl, h.untouched))
       n.why)
       h.why
 

@@ -74,7 +74,7 @@ pub record OutputTooShort (file : List Field) (out : List ℕ) (number : ℕ) : 
 pub record NotFilled (t out : List ℕ) (number line : ℕ) : Type 0 where
   pub file : List Field
   pub read : file_of t ≡ fields file
-  pub no_line_lem : line ≡ no_line
+  pub lineless : line ≡ no_line
   pub why : FilledTooLong file number ⊎ OutputTooShort file out number
 
 -- "The filler gives 2 to 11 as the reader does, then 31, then 30, and on refusal its output is untouched"

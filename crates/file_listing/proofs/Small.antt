@@ -199,7 +199,7 @@ page_small t fs h =
     let o : in_listing_order 0 false fs ≡ true = fields_in_order before_first 1 (lines t) fs e in
     let r : Readable fs = text_readable t fs h in
     things_small t (text_short t fs h) 0 false fs o (fields_filled 0 false fs o) (fields_right before_first 1 (lines t) fs e)
-    (fields_stand t before_first 1 0 fs e) r.well_spaced_lem r.low
+    (fields_stand t before_first 1 0 fs e) r.spaced r.low
 
 -- of the fields that the walk over a text found
 pub found_small : (t list : List ℕ) (r : Found) → found_in t list r ≡ text_page t → (n : ℕ) → r ≡ Listed n → AllSmall (things_of (between t list 0 n))

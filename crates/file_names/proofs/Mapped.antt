@@ -167,9 +167,9 @@ module _ (t list : List ℕ) (n : ℕ) (sound : Sound t list n) (limits : over_l
         of_subjects = mapped (named_at 5 5) 128 few_subjects six₀ six sfresh ssame s sindexed (domains_at subject_name fs) (domains_named subject_name fs) (subjects_once z);
         of_functions = mapped (members_named 6) 1024 few_functions_lem fix₀ fix ffresh fsame f findexed (identifiers_at subject_members fs) (members_named_lem subject_members fs) (sym findexed.line ∙ w);
       };
-      few_objects_lem = within_limit (named_at 2 2) 128 few_objects_lem oix₀ oix ofresh osame o oindexed;
+      few_objects = within_limit (named_at 2 2) 128 few_objects_lem oix₀ oix ofresh osame o oindexed;
       few_subjects = within_limit (named_at 5 5) 128 few_subjects six₀ six sfresh ssame s sindexed;
-      few_functions_lem = within_limit (members_named 6) 1024 few_functions_lem fix₀ fix ffresh fsame f findexed;
+      few_functions = within_limit (members_named 6) 1024 few_functions_lem fix₀ fix ffresh fsame f findexed;
     }
 
   -- ---- 7
@@ -231,9 +231,9 @@ pub went_room : (t : List ℕ) (fs : List Field) (oix oix₀ six six₀ fix fix�
     → ((names_at + name_size * r.objects ≤ length oix) × (r.objects ≤ 128))
     × (((names_at + name_size * r.subjects ≤ length six) × (r.subjects ≤ 128)) × ((names_at + name_size * r.functions ≤ length fix) × (r.functions ≤ 1024)))
 went_room t fs oix oix₀ six six₀ fix fix₀ r maps of sf ff a b d = (
-  went_in t oix oix₀ r.objects 128 maps.few_objects_lem of a,
+  went_in t oix oix₀ r.objects 128 maps.few_objects of a,
   (
     went_in t six six₀ r.subjects 128 maps.few_subjects sf b,
-    went_in t fix fix₀ r.functions 1024 maps.few_functions_lem ff d,
+    went_in t fix fix₀ r.functions 1024 maps.few_functions ff d,
   ),
 )

@@ -19,9 +19,9 @@ pub record Fresh (t ix : List ℕ) (limit : ℕ) : Type 0 where
 pub record MapsTo (t : List ℕ) (fs : List Field) (objectIx subjectIx functionIx : List ℕ) (r : Names) : Type 0 where
   pub line : r.twice ≡ repeated (members_named subject_members) [] fs
   pub maps : repeated domain_named [] fs ≡ no_line → r.twice ≡ no_line → Maps t fs objectIx subjectIx functionIx r.objects r.subjects r.functions
-  pub few_objects_lem : r.objects ≤ most_domains
+  pub few_objects : r.objects ≤ most_domains
   pub few_subjects : r.subjects ≤ most_domains
-  pub few_functions_lem : r.functions ≤ most_members
+  pub few_functions : r.functions ≤ most_members
 
 -- no name stands in a map twice
 pub record Distinct (fs : List Field) : Type 0 where

@@ -24,7 +24,7 @@ use Rattle.file_read.proofs.Low.{over_low, twice_low, unknown_low, unbound_low, 
 
 pub sound : (t list : List ℕ) (n : ℕ) → field_size * n ≤ length list → bytes_to list n ≤ length t → length t ≤ text_bytes
     → Readable (between t list 0 n) → Sound t list n
-sound t list n room fits small fs = record { room = room; spaced = fs.well_spaced_lem; numbered = fs.numbered; small = small; fits = fits }
+sound t list n room fits small fs = record { room = room; spaced = fs.spaced; numbered = fs.numbered; small = small; fits = fits }
 
 -- an index with no name in it
 module _ (t : List ℕ) where

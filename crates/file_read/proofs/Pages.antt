@@ -24,7 +24,7 @@ page_readable : (t : List ℕ) (fs : List Field) → length t ≤ text_bytes →
 unfolding page_of is_low
 page_readable t fs h e =
     record {
-      well_spaced_lem = all_spaced_well fs (fields_right before_first 1 (lines t) fs e);
+      spaced = all_spaced_well fs (fields_right before_first 1 (lines t) fs e);
       numbered = fields_numbered before_first 1 (lines t) fs (omega arith) e;
       low = fields_low text_bytes before_first 1 (lines t) fs (omega (arith, lines_few 0 t)) e;
     }

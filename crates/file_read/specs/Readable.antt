@@ -12,6 +12,6 @@ is_low f = leb f.line text_bytes
 
 -- each field's list is well spaced, and its line is one that the text can have
 pub record Readable (fs : List Field) : Type 0 where
-  pub well_spaced_lem : all_of well_spaced fs ≡ true
+  pub spaced : all_of well_spaced fs ≡ true
   pub numbered : all_of is_numbered fs ≡ true
   pub low : all_of is_low fs ≡ true

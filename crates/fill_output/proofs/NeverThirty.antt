@@ -13,7 +13,7 @@ use Rattle.paper.specs.Page.{Outcome, fields, fault}
 use Rattle.paper.specs.Filled.{filled_text}
 use Rattle.paper.specs.Promises.{file_of, written_in, filling_of}
 use Rattle.laws_file.specs.AtFault.{Refusal, text_too_long, bad_byte, layout, empty_field, malformed_scalar}
-use Rattle.laws_file.specs.AtFault.{over_limit_lem, named_twice_lem, unknown_name_lem, unbound_variable_lem, twin_principal_lem, number_of, RefusedRightly}
+use Rattle.laws_file.specs.AtFault.{count_over_limit, name_twice, name_unknown, variable_unbound, principal_twin, number_of, RefusedRightly}
 use Rattle.laws_file.proofs.Accepted.{refused_smallest}
 
 up_to_eleven : (r : Refusal) → number_of r ≤ 11
@@ -22,11 +22,11 @@ up_to_eleven bad_byte = omega arith
 up_to_eleven layout = omega arith
 up_to_eleven empty_field = omega arith
 up_to_eleven malformed_scalar = omega arith
-up_to_eleven over_limit_lem = omega arith
-up_to_eleven named_twice_lem = omega arith
-up_to_eleven unknown_name_lem = omega arith
-up_to_eleven unbound_variable_lem = omega arith
-up_to_eleven twin_principal_lem = omega arith
+up_to_eleven count_over_limit = omega arith
+up_to_eleven name_twice = omega arith
+up_to_eleven name_unknown = omega arith
+up_to_eleven variable_unbound = omega arith
+up_to_eleven principal_twin = omega arith
 
 never_no_room : (size line : ℕ) → written_in text_bytes size ≡ Unfilled 30 line → ⊥
 unfolding written_in

@@ -20,7 +20,7 @@ use Rattle.laws_page.specs.Right.{Ascending}
 use Rattle.laws_page.proofs.Theorems.{smallest}
 use Rattle.laws_page.proofs.Answered.{answers, page_number}
 use Rattle.laws_file.specs.Rules.{OverLimit, NamedTwice, UnknownName, UnboundVariable, TwinPrincipal}
-use Rattle.laws_file.specs.AtFault.{InFile, Refusal, text_too_long, bad_byte, layout, empty_field, malformed_scalar, over_limit_lem, named_twice_lem, unknown_name_lem, unbound_variable_lem, twin_principal_lem}
+use Rattle.laws_file.specs.AtFault.{InFile, Refusal, text_too_long, bad_byte, layout, empty_field, malformed_scalar, count_over_limit, name_twice, name_unknown, variable_unbound, principal_twin}
 use Rattle.laws_file.specs.AtFault.{number_of, turn_of, AtFault, RulesHold, RefusedRightly}
 use Rattle.laws_file.proofs.Smallest.{Finds, same_faults}
 use Rattle.laws_file.proofs.BadBytes.{bad_finds, bytes_good, good_bytes}
@@ -42,15 +42,15 @@ turns bad_byte = (omega arith, omega arith)
 turns layout = (omega arith, omega arith)
 turns empty_field = (omega arith, omega arith)
 turns malformed_scalar = (omega arith, omega arith)
-turns over_limit_lem = (omega arith, omega arith)
-turns named_twice_lem = (omega arith, omega arith)
-turns unknown_name_lem = (omega arith, omega arith)
-turns unbound_variable_lem = (omega arith, omega arith)
-turns twin_principal_lem = (omega arith, omega arith)
+turns count_over_limit = (omega arith, omega arith)
+turns name_twice = (omega arith, omega arith)
+turns name_unknown = (omega arith, omega arith)
+turns variable_unbound = (omega arith, omega arith)
+turns principal_twin = (omega arith, omega arith)
 
 -- the refusal of each turn, but that three share the fourth
 abbrev in_turn : List Refusal
-in_turn = text_too_long ∷ text_too_long ∷ text_too_long ∷ bad_byte ∷ layout ∷ over_limit_lem ∷ named_twice_lem ∷ unknown_name_lem ∷ unbound_variable_lem ∷ twin_principal_lem ∷ []
+in_turn = text_too_long ∷ text_too_long ∷ text_too_long ∷ bad_byte ∷ layout ∷ count_over_limit ∷ name_twice ∷ name_unknown ∷ variable_unbound ∷ principal_twin ∷ []
 
 its_turn : (r : Refusal) → (turn_of r ≡ 4 → ⊥) → get_or in_turn (turn_of r) text_too_long ≡ r
 its_turn text_too_long h = refl
@@ -58,11 +58,11 @@ its_turn bad_byte h = refl
 its_turn layout h = absurd (h refl)
 its_turn empty_field h = absurd (h refl)
 its_turn malformed_scalar h = absurd (h refl)
-its_turn over_limit_lem h = refl
-its_turn named_twice_lem h = refl
-its_turn unknown_name_lem h = refl
-its_turn unbound_variable_lem h = refl
-its_turn twin_principal_lem h = refl
+its_turn count_over_limit h = refl
+its_turn name_twice h = refl
+its_turn name_unknown h = refl
+its_turn variable_unbound h = refl
+its_turn principal_twin h = refl
 
 -- so a turn that is not the fourth is that of one refusal
 alone : (r s : Refusal) → (turn_of r ≡ 4 → ⊥) → turn_of s ≡ turn_of r → s ≡ r
@@ -112,11 +112,11 @@ module _ (t : List ℕ) where
   of_page layout m e a = answers t 4 m a
   of_page empty_field m e a = answers t 9 m a
   of_page malformed_scalar m e a = answers t 5 m a
-  of_page over_limit_lem m e a = absurd (omega arith)
-  of_page named_twice_lem m e a = absurd (omega arith)
-  of_page unknown_name_lem m e a = absurd (omega arith)
-  of_page unbound_variable_lem m e a = absurd (omega arith)
-  of_page twin_principal_lem m e a = absurd (omega arith)
+  of_page count_over_limit m e a = absurd (omega arith)
+  of_page name_twice m e a = absurd (omega arith)
+  of_page name_unknown m e a = absurd (omega arith)
+  of_page variable_unbound m e a = absurd (omega arith)
+  of_page principal_twin m e a = absurd (omega arith)
 
   module _ (clear : Clear 4) where
     clear_page : (fs : List Field) → page_of t ≡ fields fs → Clear 5
@@ -164,14 +164,14 @@ module _ (t : List ℕ) where
     held : Clear 5 → Rightly (ruled fs)
     unfolding ruled
     held clear =
-        unless over_limit_lem (λ e. omega arith) clear (over_limit fs) _ (in_file OverLimit _ (counts.over_limit_lem fs ascending))
+        unless count_over_limit (λ e. omega arith) clear (over_limit fs) _ (in_file OverLimit _ (counts.over_limit_lem fs ascending))
         (λ six.
-        unless named_twice_lem (λ e. omega arith) six (named_twice fs) _ (in_file NamedTwice _ (repeats.named_twice_lem fs ascending))
+        unless name_twice (λ e. omega arith) six (named_twice fs) _ (in_file NamedTwice _ (repeats.named_twice_lem fs ascending))
         (λ seven.
-        unless unknown_name_lem (λ e. omega arith) seven (unknown_name fs) _ (in_file UnknownName _ (unknown.unknown_name_lem fs ascending))
+        unless name_unknown (λ e. omega arith) seven (unknown_name fs) _ (in_file UnknownName _ (unknown.unknown_name_lem fs ascending))
         (λ eight.
-        unless unbound_variable_lem (λ e. omega arith) eight (unbound_variable fs) _ (in_file UnboundVariable _ (entries.unbound_variable_lem fs ascending))
-        (λ ten. unless twin_principal_lem (λ e. omega arith) ten (twin_principal fs) (fields fs)
+        unless variable_unbound (λ e. omega arith) eight (unbound_variable fs) _ (in_file UnboundVariable _ (entries.unbound_variable_lem fs ascending))
+        (λ ten. unless principal_twin (λ e. omega arith) ten (twin_principal fs) (fields fs)
         (in_file TwinPrincipal _ (entries.twin_principal_lem fs ascending (page_right t fs page))) (λ eleven. (eleven, page))))))
 
   -- ---- the whole
@@ -214,11 +214,11 @@ module _ (t : List ℕ) where
     scalars_right = none malformed_scalar;
     fs = fs;
     page = page;
-    within_limits = λ m b. none over_limit_lem m (record { fs = fs; page = page; broken = b });
-    named_once = λ m b. none named_twice_lem m (record { fs = fs; page = page; broken = b });
-    names_known = λ m b. none unknown_name_lem m (record { fs = fs; page = page; broken = b });
-    variables_bound_lem = λ m b. none unbound_variable_lem m (record { fs = fs; page = page; broken = b });
-    no_twins_lem = λ m b. none twin_principal_lem m (record { fs = fs; page = page; broken = b });
+    within_limits = λ m b. none count_over_limit m (record { fs = fs; page = page; broken = b });
+    named_once = λ m b. none name_twice m (record { fs = fs; page = page; broken = b });
+    names_known = λ m b. none name_unknown m (record { fs = fs; page = page; broken = b });
+    variables_bound = λ m b. none variable_unbound m (record { fs = fs; page = page; broken = b });
+    no_twins = λ m b. none principal_twin m (record { fs = fs; page = page; broken = b });
   }
     where
       none : (r : Refusal) (m : ℕ) → AtFault t r m → ⊥
@@ -237,11 +237,11 @@ module _ (t : List ℕ) where
     none_at_fault layout m a = h.laid_out m a
     none_at_fault empty_field m a = h.none_empty m a
     none_at_fault malformed_scalar m a = h.scalars_right m a
-    none_at_fault over_limit_lem m a = not_broken OverLimit h.within_limits m a
-    none_at_fault named_twice_lem m a = not_broken NamedTwice h.named_once m a
-    none_at_fault unknown_name_lem m a = not_broken UnknownName h.names_known m a
-    none_at_fault unbound_variable_lem m a = not_broken UnboundVariable h.variables_bound_lem m a
-    none_at_fault twin_principal_lem m a = not_broken TwinPrincipal h.no_twins_lem m a
+    none_at_fault count_over_limit m a = not_broken OverLimit h.within_limits m a
+    none_at_fault name_twice m a = not_broken NamedTwice h.named_once m a
+    none_at_fault name_unknown m a = not_broken UnknownName h.names_known m a
+    none_at_fault variable_unbound m a = not_broken UnboundVariable h.variables_bound m a
+    none_at_fault principal_twin m a = not_broken TwinPrincipal h.no_twins m a
 
 -- ---- the theorems
 

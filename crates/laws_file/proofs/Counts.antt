@@ -131,8 +131,8 @@ module _ (fs : List Field) (a : Ascending (λ f. f.line) 1 fs) where
       ⊎ (On line_of_entry (Passes descriptors_in most_descriptors) (entries_of fs) m ⊎ ⊥))))))
 
   to : (m : ℕ) → Some m → OverLimit fs m
-  to m (inl o) = rules.OverLimit.object_domains_lem o
-  to m (inr (inl o)) = rules.OverLimit.subject_domains_lem o
+  to m (inl o) = rules.OverLimit.domains_of_objects o
+  to m (inr (inl o)) = rules.OverLimit.domains_of_subjects o
   to m (inr (inr (inl o))) = rules.OverLimit.objects o
   to m (inr (inr (inr (inl o)))) = rules.OverLimit.subjects o
   to m (inr (inr (inr (inr (inl o))))) = rules.OverLimit.entries o
@@ -141,8 +141,8 @@ module _ (fs : List Field) (a : Ascending (λ f. f.line) 1 fs) where
   to m (inr (inr (inr (inr (inr (inr (inr z))))))) = absurd z
 
   from : (m : ℕ) → OverLimit fs m → Some m
-  from m (rules.OverLimit.object_domains_lem o) = inl o
-  from m (rules.OverLimit.subject_domains_lem o) = inr (inl o)
+  from m (rules.OverLimit.domains_of_objects o) = inl o
+  from m (rules.OverLimit.domains_of_subjects o) = inr (inl o)
   from m (rules.OverLimit.objects o) = inr (inr (inl o))
   from m (rules.OverLimit.subjects o) = inr (inr (inr (inl o)))
   from m (rules.OverLimit.entries o) = inr (inr (inr (inr (inl o))))

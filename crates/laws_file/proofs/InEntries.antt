@@ -100,7 +100,7 @@ in_entries (e ∷ es) a =
 pub unbound_variable_lem : (fs : List Field) → Ascending (λ f. f.line) 1 fs → Finds (UnboundVariable fs) (unbound_variable fs)
 unfolding unbound_variable
 unbound_variable_lem fs a =
-    same_faults _ (λ m r. record { entry = r.0; stands = r.1; on_line_lem = r.2 }) (λ m u. (u.entry, u.stands, u.on_line_lem))
+    same_faults _ (λ m r. record { entry = r.0; stands = r.1; unbound = r.2 }) (λ m u. (u.entry, u.stands, u.unbound))
     (in_entries (entries_of fs) (each_ascends fs a))
 
 -- ---- 11: two principals

@@ -28,12 +28,12 @@ module _ (named : Field → List (List ℕ)) where
       (λ (n : Has [] r.0). absurd (has_none n))
       (λ (g : (g : Field) × Has before g × Has (named g) r.0). rules.NamesAgain.named_before g.0 g.1 r.0 g.2 r.2)
       (has_seen named r.0 [] before r.1))
-      (λ (t : Twice (named f)). rules.NamesAgain.named_twice_lem t)
+      (λ (t : Twice (named f)). rules.NamesAgain.twice_itself t)
       (repeats_so (seen_from named [] before) (named f) e)
 
   told : (before : List Field) (f : Field) → NamesAgain named before f → repeats (seen_from named [] before) (named f) ≡ true
   told before f (rules.NamesAgain.named_before g b name n h) = so_repeats (seen_from named [] before) (named f) (inl (name, seen_has named name [] before g b n, h))
-  told before f (rules.NamesAgain.named_twice_lem t) = so_repeats (seen_from named [] before) (named f) (inr t)
+  told before f (rules.NamesAgain.twice_itself t) = so_repeats (seen_from named [] before) (named f) (inr t)
 
   ends : (before : List Field) → repeated named (seen_from named [] before) [] ≡ 0
   unfolding repeated

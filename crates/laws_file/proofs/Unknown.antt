@@ -66,10 +66,10 @@ tells file before f e = go (is_at subject_of_entry f) refl (is_at_one subject_li
     go : (x : Bool) → is_at subject_of_entry f ≡ x → (y : Bool) → is_at_one subject_lists f ≡ y → (z : Bool) → is_at_one object_lists f ≡ z
         → chain file f x y z (is_at_one call_contexts f) ≡ true → NamesUnknown file before f
     go true p y q z r h =
-        rules.NamesUnknown.subject_of_entry_lem (eqb-true f.place subject_of_entry p)
+        rules.NamesUnknown.entry_subject (eqb-true f.place subject_of_entry p)
         (λ k. not_both (has_among f.value (domains_at subject_name file) k) (not-true (among f.value (domains_at subject_name file)) h))
-    go false p true q z r h = rules.NamesUnknown.subject_domain_lem q (unknown_lacking (domains_at subject_name file) (elements f.value) (not-true _ h))
-    go false p false q true r h = rules.NamesUnknown.object_domain_lem r (unknown_lacking (domains_at object_name file) (elements f.value) (not-true _ h))
+    go false p true q z r h = rules.NamesUnknown.listed_subject q (unknown_lacking (domains_at subject_name file) (elements f.value) (not-true _ h))
+    go false p false q true r h = rules.NamesUnknown.listed_object r (unknown_lacking (domains_at object_name file) (elements f.value) (not-true _ h))
     go false p false q false r h =
         rules.NamesUnknown.element (both_left (is_at_one call_contexts f) _ h)
         (unknown_lacking (element_names file) (elements f.value) (not-true _ (both_right (is_at_one call_contexts f) _ h)))
@@ -79,14 +79,14 @@ lacked known names l = ap not (lacking_unknown known names l)
 
 told : (file before : List Field) (f : Field) → NamesUnknown file before f → names_unknown file f ≡ true
 unfolding names_unknown element_names is_at_one
-told file before f (rules.NamesUnknown.subject_of_entry_lem p l) = rw (eq-eqb f.place subject_of_entry p) (go (among f.value (domains_at subject_name file)) refl)
+told file before f (rules.NamesUnknown.entry_subject p l) = rw (eq-eqb f.place subject_of_entry p) (go (among f.value (domains_at subject_name file)) refl)
   where
     go : (t : Bool) → among f.value (domains_at subject_name file) ≡ t → not t ≡ true
     go true e = absurd (l (among_has f.value (domains_at subject_name file) e))
     go false e = refl
-told file before f (rules.NamesUnknown.subject_domain_lem p l) =
+told file before f (rules.NamesUnknown.listed_subject p l) =
     rw (elsewhere subject_lists (λ q. eqb q subject_of_entry) f lists_entry p, p) (lacked (domains_at subject_name file) (elements f.value) l)
-told file before f (rules.NamesUnknown.object_domain_lem p l) =
+told file before f (rules.NamesUnknown.listed_object p l) =
     rw (elsewhere object_lists (λ q. eqb q subject_of_entry) f objects_entry p, elsewhere object_lists (λ q. any_of (eqb q) subject_lists) f objects_lists p, p)
     (lacked (domains_at object_name file) (elements f.value) l)
 told file before f (rules.NamesUnknown.element p l) =

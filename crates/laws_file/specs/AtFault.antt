@@ -33,11 +33,11 @@ pub data Refusal : Type 0 where
   layout : Refusal
   empty_field : Refusal
   malformed_scalar : Refusal
-  over_limit_lem : Refusal
-  named_twice_lem : Refusal
-  unknown_name_lem : Refusal
-  unbound_variable_lem : Refusal
-  twin_principal_lem : Refusal
+  count_over_limit : Refusal
+  name_twice : Refusal
+  name_unknown : Refusal
+  variable_unbound : Refusal
+  principal_twin : Refusal
 
 -- as they come back
 abbrev pub number_of : Refusal → ℕ
@@ -45,12 +45,12 @@ number_of text_too_long = 2
 number_of bad_byte = 3
 number_of layout = 4
 number_of malformed_scalar = 5
-number_of over_limit_lem = 6
-number_of named_twice_lem = 7
-number_of unknown_name_lem = 8
+number_of count_over_limit = 6
+number_of name_twice = 7
+number_of name_unknown = 8
 number_of empty_field = 9
-number_of unbound_variable_lem = 10
-number_of twin_principal_lem = 11
+number_of variable_unbound = 10
+number_of principal_twin = 11
 
 -- "Reader order: 1, 2, 3, then the first line with 4, 9 or 5 (in that order on one line), then 6, 7, 8, 10, 11"
 abbrev pub turn_of : Refusal → ℕ
@@ -59,11 +59,11 @@ turn_of bad_byte = 3
 turn_of layout = 4
 turn_of empty_field = 4
 turn_of malformed_scalar = 4
-turn_of over_limit_lem = 5
-turn_of named_twice_lem = 6
-turn_of unknown_name_lem = 7
-turn_of unbound_variable_lem = 8
-turn_of twin_principal_lem = 9
+turn_of count_over_limit = 5
+turn_of name_twice = 6
+turn_of name_unknown = 7
+turn_of variable_unbound = 8
+turn_of principal_twin = 9
 
 -- line m of the text is at fault: of 4, 9 and 5 the first line with one of them is; "All but 3 to 11 return line 0"
 abbrev pub AtFault : List ℕ → Refusal → ℕ → Type 0
@@ -72,11 +72,11 @@ AtFault t bad_byte m = BadByte 1 t m
 AtFault t layout m = Smallest t 4 m
 AtFault t empty_field m = Smallest t 9 m
 AtFault t malformed_scalar m = Smallest t 5 m
-AtFault t over_limit_lem m = InFile t OverLimit m
-AtFault t named_twice_lem m = InFile t NamedTwice m
-AtFault t unknown_name_lem m = InFile t UnknownName m
-AtFault t unbound_variable_lem m = InFile t UnboundVariable m
-AtFault t twin_principal_lem m = InFile t TwinPrincipal m
+AtFault t count_over_limit m = InFile t OverLimit m
+AtFault t name_twice m = InFile t NamedTwice m
+AtFault t name_unknown m = InFile t UnknownName m
+AtFault t variable_unbound m = InFile t UnboundVariable m
+AtFault t principal_twin m = InFile t TwinPrincipal m
 
 -- document 01's rules hold of a text, each named by itself
 pub record RulesHold (t : List ℕ) : Type 0 where
@@ -100,9 +100,9 @@ pub record RulesHold (t : List ℕ) : Type 0 where
   -- 8: "domain or function its map lacks"
   pub names_known : (m : ℕ) → UnknownName fs m → ⊥
   -- 10: "object context variable not the one bound by that entry's same key"
-  pub variables_bound_lem : (m : ℕ) → UnboundVariable fs m → ⊥
+  pub variables_bound : (m : ℕ) → UnboundVariable fs m → ⊥
   -- 11: "two entries with the same principal"
-  pub no_twins_lem : (m : ℕ) → TwinPrincipal fs m → ⊥
+  pub no_twins : (m : ℕ) → TwinPrincipal fs m → ⊥
 
 -- number k with line m is right of a text: the line is at fault of it, none that is lies before it, and no number that comes sooner has a line at fault
 pub record RefusedRightly (t : List ℕ) (k m : ℕ) : Type 0 where

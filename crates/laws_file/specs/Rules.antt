@@ -57,8 +57,8 @@ pub record LongPattern (before : List Field) (f : Field) : Type 0 where
 
 -- "At most: 128 domains in each map, 1,024 objects, 1,024 subjects, 128 entries, 16 elements in a `call_context`, 256 access descriptors in the file."
 pub data OverLimit (fs : List Field) (m : ℕ) : Type 0 where
-  object_domains_lem : OnField (Passes (one_at object_name) most_domains) fs m → OverLimit fs m
-  subject_domains_lem : OnField (Passes (one_at subject_name) most_domains) fs m → OverLimit fs m
+  domains_of_objects : OnField (Passes (one_at object_name) most_domains) fs m → OverLimit fs m
+  domains_of_subjects : OnField (Passes (one_at subject_name) most_domains) fs m → OverLimit fs m
   objects : OnField (Passes (members_at object_members) most_members) fs m → OverLimit fs m
   subjects : OnField (Passes (members_at subject_members) most_members) fs m → OverLimit fs m
   entries : OnField (Passes (one_at principal) most_entries) fs m → OverLimit fs m
@@ -79,7 +79,7 @@ pub record Twice (names : List (List ℕ)) : Type 0 where
 -- a field names what one before it named, or names it twice itself, whichever names it is that fields give
 pub data NamesAgain (named : Field → List (List ℕ)) (before : List Field) (f : Field) : Type 0 where
   named_before : (g : Field) → Has before g → (name : List ℕ) → Has (named g) name → Has (named f) name → NamesAgain named before f
-  named_twice_lem : Twice (named f) → NamesAgain named before f
+  twice_itself : Twice (named f) → NamesAgain named before f
 
 -- the lists in which no name may stand twice; "`call_context` may repeat an element"
 pub record RepeatsInList (before : List Field) (f : Field) : Type 0 where
@@ -103,9 +103,9 @@ pub record Lacking (known names : List (List ℕ)) : Type 0 where
 
 -- a field of the file names what its map lacks: the subject of an entry, a domain in a list, an element of a `call_context`
 pub data NamesUnknown (file before : List Field) (f : Field) : Type 0 where
-  subject_of_entry_lem : f.place ≡ subject_of_entry → (Has (domains_at subject_name file) f.value → ⊥) → NamesUnknown file before f
-  subject_domain_lem : is_at_one subject_lists f ≡ true → Lacking (domains_at subject_name file) (elements f.value) → NamesUnknown file before f
-  object_domain_lem : is_at_one object_lists f ≡ true → Lacking (domains_at object_name file) (elements f.value) → NamesUnknown file before f
+  entry_subject : f.place ≡ subject_of_entry → (Has (domains_at subject_name file) f.value → ⊥) → NamesUnknown file before f
+  listed_subject : is_at_one subject_lists f ≡ true → Lacking (domains_at subject_name file) (elements f.value) → NamesUnknown file before f
+  listed_object : is_at_one object_lists f ≡ true → Lacking (domains_at object_name file) (elements f.value) → NamesUnknown file before f
   -- "`call_context` holds function identifiers or `all`", or subject domain names (document 02 d)
   element : is_at_one call_contexts f ≡ true → Lacking (bytes "all" ∷ (identifiers_at subject_members file ++ domains_at subject_name file)) (elements f.value)
       → NamesUnknown file before f
@@ -132,7 +132,7 @@ pub data Unbound (entry before : List Field) (f : Field) : Type 0 where
 pub record UnboundVariable (fs : List Field) (m : ℕ) : Type 0 where
   pub entry : List Field
   pub stands : Has (entries_of fs) entry
-  pub on_line_lem : OnField (Unbound entry) entry m
+  pub unbound : OnField (Unbound entry) entry m
 
 -- ---- 11: "two entries with the same principal"; "for 11 the later entry's `principal` line"
 
