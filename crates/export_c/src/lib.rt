@@ -33,7 +33,7 @@ pub extern "C" fn dovetenon_judge(
     allocation_namespace: u32,
 ) -> u32
     ensures { result ≡ verdict_packed (judge_answer table.now operation target
-        (record { stack = stack.now; uid = uid; gid = gid; namespace = namespace })
+        (record { stack = stack.entry.now; uid = uid; gid = gid; namespace = namespace })
         (record { stack = allocation.now; uid = allocation_uid; gid = allocation_gid; namespace = allocation_namespace })) }
 {
     export::dovetenon_judge(
@@ -66,7 +66,7 @@ pub extern "C" fn dovetenon_judge_known(
     allocation_namespace: u32,
 ) -> u32
     ensures { result ≡ verdict_packed (judge_event (policy_in table.now) operation target
-        (record { stack = stack.now; uid = uid; gid = gid; namespace = namespace })
+        (record { stack = stack.entry.now; uid = uid; gid = gid; namespace = namespace })
         (record { stack = allocation.now; uid = allocation_uid; gid = allocation_gid; namespace = allocation_namespace })) }
 {
     export::dovetenon_judge_known(
