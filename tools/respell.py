@@ -1,7 +1,7 @@
 #!/usr/bin/env python3
 """Spells this repository's own definitions and lemmas as today's Rattle spells its words: in snake case.
 
-    python3 /opt/rattle/port/port.py        once, at the top
+    python3 KIT/port/port.py                once, at the top; KIT is the folder of Rattle
     python3 tools/respell.py                once, after it
 
 Names that files of specs/ and proofs/ declare lose their dashes and capitals within: `matchesLater` becomes `matches_later`.
