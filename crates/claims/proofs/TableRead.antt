@@ -87,7 +87,9 @@ unfolding computing
 sets_read = refl
 
 -- a domain put into a set, once and again; past its last word nothing changes
-sets_written : map (with_domain (1 ∷ 2 ∷ [])) (0 ∷ 1 ∷ 15 ∷ 16 ∷ 17 ∷ 31 ∷ 32 ∷ []) ≡ (1 ∷ 2 ∷ []) ∷ (3 ∷ 2 ∷ []) ∷ (32769 ∷ 2 ∷ []) ∷ (1 ∷ 3 ∷ []) ∷ (1 ∷ 2 ∷ []) ∷ (1 ∷ 32770 ∷ []) ∷ (1 ∷ 2 ∷ []) ∷ []
+sets_written :
+    map (with_domain (1 ∷ 2 ∷ [])) (0 ∷ 1 ∷ 15 ∷ 16 ∷ 17 ∷ 31 ∷ 32 ∷ [])
+    ≡ (1 ∷ 2 ∷ []) ∷ (3 ∷ 2 ∷ []) ∷ (32769 ∷ 2 ∷ []) ∷ (1 ∷ 3 ∷ []) ∷ (1 ∷ 2 ∷ []) ∷ (1 ∷ 32770 ∷ []) ∷ (1 ∷ 2 ∷ []) ∷ []
 unfolding computing
 sets_written = refl
 

@@ -170,8 +170,11 @@ module _ (t list words starts : List ℕ) (n from to : ℕ) (within : to ≤ n) 
   unfolding context_in
   length_context_in place which few = length_context _ _ _ _ (pattern_few t list words starts n from to within worded place which few)
 
-  context_known : (place : ℕ) → IsContext place → context_in t list words starts place from to ≡ context_words (context_of (identifiers_at subject_members file) (domains_at subject_name file) place fs)
-  context_known place which = context_in_lem t list words starts n from to within worded place which ∙ context_is (identifiers_at subject_members file) (domains_at subject_name file) place fs
+  context_known : (place : ℕ) → IsContext place → context_in t list words starts place from to
+      ≡ context_words (context_of (identifiers_at subject_members file) (domains_at subject_name file) place fs)
+  context_known place which =
+      context_in_lem t list words starts n from to within worded place which
+      ∙ context_is (identifiers_at subject_members file) (domains_at subject_name file) place fs
 
   -- ---- an entry
 

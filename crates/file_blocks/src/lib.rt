@@ -112,7 +112,7 @@ pub fn next_key(list: &[u32], place: usize, from: usize, to: usize) -> usize
     i
 }
 
-// The same: most contexts have no key, and one is looked for first.
+// The context at a place; most contexts have no key, so one is looked for first.
 fn write_context(
     t: &[u8],
     list: &[u32],
@@ -146,7 +146,7 @@ fn put_domain(d: usize, n: usize, domains: &mut [u16])
     Operation::insert(domains, d);
 }
 
-// The same for every word.
+// Puts the domain of every word into a set, where there is one among n.
 fn put_domains(s: &[u16], n: usize, domains: &mut [u16])
     ensures { domains.new ≡ with_words n domains.old s.now }
 {

@@ -270,8 +270,8 @@ fn same_principal(t: &[u8], list: &[u32], from: usize, to: usize, start: usize, 
 
 // Entries a and b have the same principal. Hashes are compared first since they nearly always tell.
 fn are_twins(t: &[u8], list: &[u32], starts: &[usize], hashes: &[u32], a: usize, b: usize) -> bool
-    requires hashed { Hashed t.now list.now starts.now hashes.now a }
-    requires hashed_2 { Hashed t.now list.now starts.now hashes.now b }
+    requires a_hashed { Hashed t.now list.now starts.now hashes.now a }
+    requires b_hashed { Hashed t.now list.now starts.now hashes.now b }
     ensures { result ≡ same_principal (entry_in t.now list.now starts.now a) (entry_in t.now list.now starts.now b) }
 {
     if hashes[a] != hashes[b] {

@@ -127,7 +127,7 @@ pub fn number_in(t: &[u8], ix: &[usize], n: usize, name: &[u8]) -> usize
     number_hashed(t, ix, n, h, name)
 }
 
-// The same where the hash is known.
+// The number of a name among the first n, its hash being known; n where it is none of them.
 pub fn number_hashed(t: &[u8], ix: &[usize], n: usize, h: usize, name: &[u8]) -> usize
     requires n_in_bounds { names_at + name_size * n ≤ length ix.now }
     requires h_value { h ≡ hash_of (multiplier_in ix.now) name.now }

@@ -63,7 +63,7 @@ fn enter_domain(
 ) -> Entered
     requires i_in_bounds { field_size * (i + 1) ≤ length list.now }
     requires index { Index t.now ix.old n (names_to (named_at one other) t.now list.now i) }
-    requires i_in_bounds_2 { names_at + name_size * (n + length (named_at one other (field_at t.now list.now i))) ≤ length ix.old }
+    requires room { names_at + name_size * (n + length (named_at one other (field_at t.now list.now i))) ≤ length ix.old }
     ensures entered_as { EnteredAs t.now ix.new (names_to (named_at one other) t.now list.now i)
         (named_at one other (field_at t.now list.now i)) result }
     ensures ix_len_unchanged { length ix.new ≡ length ix.old }
@@ -91,7 +91,7 @@ fn enter_members(
     requires i_in_bounds { field_size * (i + 1) ≤ length list.now }
     requires i_value { well_spaced (field_at t.now list.now i) ≡ true }
     requires index { Index t.now ix.old n (names_to (members_named place) t.now list.now i) }
-    requires i_in_bounds_2 { names_at + name_size * (n + length (members_named place (field_at t.now list.now i))) ≤ length ix.old }
+    requires room { names_at + name_size * (n + length (members_named place (field_at t.now list.now i))) ≤ length ix.old }
     ensures entered_as { EnteredAs t.now ix.new (names_to (members_named place) t.now list.now i)
         (members_named place (field_at t.now list.now i)) result }
     ensures ix_len_unchanged { length ix.new ≡ length ix.old }
@@ -129,7 +129,7 @@ fn enter_field(
     requires i_in_bounds { field_size * (i + 1) ≤ length list.now }
     requires i_value { well_spaced (field_at t.now list.now i) ≡ true }
     requires index { Index t.now ix.old n (names_to (named naming) t.now list.now i) }
-    requires i_in_bounds_2 { names_at + name_size * (n + length (named naming (field_at t.now list.now i))) ≤ length ix.old }
+    requires room { names_at + name_size * (n + length (named naming (field_at t.now list.now i))) ≤ length ix.old }
     ensures entered_as { EnteredAs t.now ix.new (names_to (named naming) t.now list.now i) (named naming (field_at t.now list.now i)) result }
     ensures ix_len_unchanged { length ix.new ≡ length ix.old }
 {

@@ -86,9 +86,9 @@ fn index_maps(
     requires sound { Sound t.now list.now n }
     requires n_value { over_limit (between t.now list.now 0 n) ≡ no_line }
     requires end_value { end ≡ maps_end list.now n }
-    requires fresh { Fresh t.now objects_ix.old most_domains }
-    requires fresh_2 { Fresh t.now subjects_ix.old most_domains }
-    requires fresh_3 { Fresh t.now functions_ix.old most_members }
+    requires objects_fresh { Fresh t.now objects_ix.old most_domains }
+    requires subjects_fresh { Fresh t.now subjects_ix.old most_domains }
+    requires functions_fresh { Fresh t.now functions_ix.old most_members }
     ensures maps_to { MapsTo t.now (between t.now list.now 0 n) objects_ix.new subjects_ix.new functions_ix.new result }
     ensures objects_ix_len_unchanged { (length objects_ix.new ≡ length objects_ix.old)
         × (length subjects_ix.new ≡ length subjects_ix.old)
@@ -173,10 +173,10 @@ pub fn index_names(
     requires sound { Sound t.now list.now n }
     requires n_bound { (bytes_to list.now n ≤ 2 * length words.old) × (n < length starts.old) }
     requires n_value { over_limit (between t.now list.now 0 n) ≡ no_line }
-    requires fresh { Fresh t.now objects_ix.old most_domains }
-    requires fresh_2 { Fresh t.now subjects_ix.old most_domains }
-    requires fresh_3 { Fresh t.now functions_ix.old most_members }
-    requires fresh_4 { Fresh t.now starts.old most_members }
+    requires objects_fresh { Fresh t.now objects_ix.old most_domains }
+    requires subjects_fresh { Fresh t.now subjects_ix.old most_domains }
+    requires functions_fresh { Fresh t.now functions_ix.old most_members }
+    requires starts_fresh { Fresh t.now starts.old most_members }
     ensures twice_value { result.twice ≡ named_twice (between t.now list.now 0 n) }
     ensures maps { result.twice ≡ 0 → Maps t.now (between t.now list.now 0 n) objects_ix.new
         subjects_ix.new functions_ix.new result.objects result.subjects result.functions }

@@ -49,10 +49,10 @@ fn is_listed(sought: Sought) -> bool
     }
 }
 
-// The same of the words of field i, where it is a list of domains.
+// The words of field i, where it is a list of domains, are numbers of domains, and no two are the same.
 fn list_distinct(list: &[u32], words: &[u16], starts: &[usize], i: usize) -> bool
     requires i_in_bounds { field_size * (i + 1) ≤ length list.now }
-    requires i_in_bounds_2 { i + 1 < length starts.now }
+    requires starts_in_bounds { i + 1 < length starts.now }
     ensures { result ≡ list_separate list.now words.now starts.now i }
 {
     if !is_listed(sought_at(place_of(list, i))) {
@@ -61,7 +61,7 @@ fn list_distinct(list: &[u32], words: &[u16], starts: &[usize], i: usize) -> boo
     distinct(words_of(words, starts, i))
 }
 
-// The same of every field: so most files are told quickly.
+// In every list of domains the words are numbers of domains, and no two are the same: most files are told so, quickly.
 fn lists_distinct(list: &[u32], n: usize, words: &[u16], starts: &[usize]) -> bool
     requires { (field_size * n ≤ length list.now) × (n < length starts.now) }
     ensures { result ≡ lists_separate list.now words.now starts.now 0 n }

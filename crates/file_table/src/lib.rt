@@ -65,8 +65,8 @@ fn write_members(t: &[u8], list: &[u32], n: usize, place: usize, out: &mut [u16]
 // The domain of each object, then of each function: how many objects there are.
 fn write_maps(t: &[u8], list: &[u32], n: usize, out: &mut [u16]) -> usize
     requires n_in_bounds { (field_size * n ≤ length list.now) × (n ≤ most_fields) }
-    requires n_len_bound { length (member_domains 0 (fields_at object_members (between t.now list.now 0 n))) ≤ most_members }
-    requires n_len_bound_2 { length (member_domains 0 (fields_at subject_members (between t.now list.now 0 n))) ≤ most_members }
+    requires few_objects { length (member_domains 0 (fields_at object_members (between t.now list.now 0 n))) ≤ most_members }
+    requires few_subjects { length (member_domains 0 (fields_at subject_members (between t.now list.now 0 n))) ≤ most_members }
     requires out_len { (length out.old ≡ maps_size) × (out.old ≡ replicate (length out.old) 0) }
     ensures value { result ≡ length (member_domains 0 (fields_at object_members (between t.now list.now 0 n))) }
     ensures out_after { out.new ≡ map_blocks (between t.now list.now 0 n) }

@@ -180,7 +180,7 @@ fn field_words(
     requires objects_in_bounds { (names_at + name_size * objects ≤ length objects_ix.now) × (objects ≤ most_domains) }
     requires subjects_in_bounds { (names_at + name_size * subjects ≤ length subjects_ix.now) × (subjects ≤ most_domains) }
     requires functions_in_bounds { (names_at + name_size * functions ≤ length functions_ix.now) × (functions ≤ most_members) }
-    requires i_in_bounds_2 { length (field_words (numbers_by t.now objects_ix.now objects subjects_ix.now subjects functions_ix.now functions)
+    requires room { length (field_words (numbers_by t.now objects_ix.now objects subjects_ix.now subjects functions_ix.now functions)
         (field_at t.now list.now i)) ≤ length out.old }
     ensures value { result ≡ length (field_words (numbers_by t.now objects_ix.now objects subjects_ix.now subjects
         functions_ix.now functions) (field_at t.now list.now i)) }

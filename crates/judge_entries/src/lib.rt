@@ -145,7 +145,7 @@ pub fn data_granted(
     some_descriptor_grants(t, start, asked(write, reads, writes), event, allocation)
 }
 
-// The same for a read or a write.
+// The lowest entry from one on that matches and grants the read or write, or how many there are where none does.
 fn first_granting_data(
     t: &[u16],
     functions: &[u16],

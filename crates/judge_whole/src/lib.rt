@@ -302,7 +302,7 @@ fn first_descriptor(t: &[u16], n: usize) -> usize
     sum
 }
 
-// The same as of a call for a read or a write.
+// The lowest entry from one on that matches and grants the read or write, or how many there are where none does.
 fn first_granting_data(
     t: &[u16],
     functions: &[u16],

@@ -63,7 +63,8 @@ module _ (t : List ℕ) (c : Cursor) (r : next.Next) (w : Within t c.at r) (n p 
 
 module _ (t : List ℕ) (c : Cursor) (r : next.Next) (e : page_left t c ≡ page_next t r) (inv : reading_of (page_left t c) ≡ reading_of (page_of t)) where
   pub again : (n p a b x : ℕ) (bare : Bool) (d : Cursor) → r ≡ Field n p a bare b x → d ≡ cursor_behind n p bare x → reading_of (page_left t d) ≡ reading_of (page_of t)
-  again n p a b x bare d q f = sym (sym inv ∙ ap reading_of e ∙ rw (q, f) (read_behind (record { line = n; place = p; start = a; value = take (b - a) (drop a t) } ∷ []) (page_left t (cursor_behind n p bare x))))
+  again n p a b x bare d q f =
+      sym (sym inv ∙ ap reading_of e ∙ rw (q, f) (read_behind (record { line = n; place = p; start = a; value = take (b - a) (drop a t) } ∷ []) (page_left t (cursor_behind n p bare x))))
 
   pub accepted : r ≡ End → Accepted ≡ reading_of (page_of t)
   accepted q = sym (sym inv ∙ ap reading_of e ∙ rw q refl)

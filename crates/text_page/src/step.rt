@@ -117,7 +117,7 @@ fn places_for(bare: bool, here: bool, block: usize, next: usize) -> usize
 // A line that LF does not end: 4 on it, unless the field above is left empty.
 fn unended_step(st: State, n: usize, here: bool) -> Step
     ensures by_index { (from : ℕ) (l : List ℕ) → unless_empty (state_of st) here (stop 4 n) ≡ step_of st n from l result }
-    ensures by_index_2 { (l : List ℕ) → StartsIn l result }
+    ensures starts_in { (l : List ℕ) → StartsIn l result }
 {
     if is_left_empty(st, here) {
         return Step::Stop {

@@ -172,8 +172,8 @@ fn stands_again(s: &[u8], from: usize, at: usize, end: usize, next: usize) -> bo
 // A name that begins at `from` or behind it stands again behind itself: with `from` 0 that is any name.
 fn repeats_from(s: &[u8], from: usize) -> bool
     requires { spaced 0 s.now ≡ true }
-    ensures s_value { result ≡ true → repeats [] (elements_in s.now) ≡ true }
-    ensures s_value_2 { result ≡ false → from ≡ 0 → repeats [] (elements_in s.now) ≡ false }
+    ensures when_true { result ≡ true → repeats [] (elements_in s.now) ≡ true }
+    ensures when_false { result ≡ false → from ≡ 0 → repeats [] (elements_in s.now) ≡ false }
 {
     let mut at = text_lists::first_element(s);
     loop {

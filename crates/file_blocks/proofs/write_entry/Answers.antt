@@ -10,7 +10,11 @@ pub slice_bounds-write_context-end : goal.slice_bounds-write_context-end
 slice_bounds-write_context-end c = search (rules, room_in_entry)
 
 pub write_context-requires-clause-to_in_bounds : goal.write_context-requires-clause-to_in_bounds
-write_context-requires-clause-to_in_bounds c = (fields_within _ _ _ c.requires.n_in_bounds.0 c.requires.n_in_bounds.1, starts_within _ _ _ c.requires.n_in_bounds.1 c.requires.worded.room, is_execution_context)
+write_context-requires-clause-to_in_bounds c = (
+  fields_within _ _ _ c.requires.n_in_bounds.0 c.requires.n_in_bounds.1,
+  starts_within _ _ _ c.requires.n_in_bounds.1 c.requires.worded.room,
+  is_execution_context,
+)
 
 pub write_context-requires-clause-to_len_bound : goal.write_context-requires-clause-to_len_bound
 write_context-requires-clause-to_len_bound c = pattern_few _ _ _ _ _ _ _ c.requires.n_in_bounds.1 c.requires.worded _ is_execution_context c.requires.to_len_bound

@@ -22,5 +22,7 @@ pub index_members-functions-requires-clause-names_end : goal.index_members-funct
 index_members-functions-requires-clause-names_end c = search (rules, functions_end)
 
 pub returns-clause-maps_to : goal.returns-clause-maps_to
-returns-clause-maps_to c = maps_to _ _ _ c.requires.sound c.requires.n_value _ _ _ _ _ _ c.requires.fresh c.requires.fresh_2 c.requires.fresh_3 c.index_domains-objects.ensures.ix_len_unchanged c.index_domains-subjects.ensures.ix_len_unchanged c.index_members-functions.ensures.ix_len_unchanged _ _
-    _ c.index_domains-objects.ensures.indexed_as c.index_domains-subjects.ensures.indexed_as c.index_members-functions.ensures.indexed_as
+returns-clause-maps_to c =
+    maps_to _ _ _ c.requires.sound c.requires.n_value _ _ _ _ _ _ c.requires.objects_fresh c.requires.subjects_fresh c.requires.functions_fresh
+    c.index_domains-objects.ensures.ix_len_unchanged c.index_domains-subjects.ensures.ix_len_unchanged c.index_members-functions.ensures.ix_len_unchanged
+    _ _ _ c.index_domains-objects.ensures.indexed_as c.index_domains-subjects.ensures.indexed_as c.index_members-functions.ensures.indexed_as

@@ -8,14 +8,16 @@ index_maps-maps-requires c = let end = c.maps_end-end.ensures in
       sound = c.requires.sound;
       n_value = c.requires.n_value;
       end_value = end;
-      fresh = c.requires.fresh;
-      fresh_2 = c.requires.fresh_2;
-      fresh_3 = c.requires.fresh_3;
+      objects_fresh = c.requires.objects_fresh;
+      subjects_fresh = c.requires.subjects_fresh;
+      functions_fresh = c.requires.functions_fresh;
     }
 
 pub word_lists-lists-requires : goal.word_lists-lists-requires
 word_lists-lists-requires c =
-    let room = went_room _ _ _ _ _ _ _ _ _ c.index_maps-maps.ensures.maps_to c.requires.fresh c.requires.fresh_2 c.requires.fresh_3 c.index_maps-maps.ensures.objects_ix_len_unchanged.0 c.index_maps-maps.ensures.objects_ix_len_unchanged.1 c.index_maps-maps.ensures.objects_ix_len_unchanged.2 in
+    let maps = c.index_maps-maps.ensures in
+    let as_long = maps.objects_ix_len_unchanged in
+    let room = went_room _ _ _ _ _ _ _ _ _ maps.maps_to c.requires.objects_fresh c.requires.subjects_fresh c.requires.functions_fresh as_long.0 as_long.1 as_long.2 in
     record {
       sound = c.requires.sound;
       n_bound = (c.requires.n_bound.0, still_room _ _ _ c.requires.n_bound.1 c.objects_line-objects.ensures.ix_len_unchanged);
@@ -30,9 +32,11 @@ returns c = let domains = c.domains_line-domains.ensures in
     let first = c.earlier.ensures in
     let second = c.earlier-2.ensures in
     let third = c.earlier-3.ensures in
+    let indexed = c.index_maps-maps.ensures in
+    let lists = c.word_lists-lists.ensures in
     record {
-      twice_value = twice_told _ _ _ c.requires.sound c.requires.n_value _ _ _ _ _ _ _ domains objects c.index_maps-maps.ensures.maps_to.line c.word_lists-lists.ensures.value first second third;
-      maps = maps_told _ _ _ c.requires.sound c.requires.n_value _ _ _ _ _ _ _ domains objects c.index_maps-maps.ensures.maps_to.line c.word_lists-lists.ensures.value first second third _ _ _ _ c.index_maps-maps.ensures.maps_to;
-      distinct = distinct_told _ _ _ c.requires.sound c.requires.n_value _ _ _ _ _ _ _ domains objects c.index_maps-maps.ensures.maps_to.line c.word_lists-lists.ensures.value first second third;
-      worded = words_told _ _ _ c.requires.sound c.requires.n_value _ _ _ _ _ _ _ domains objects c.index_maps-maps.ensures.maps_to.line c.word_lists-lists.ensures.value first second third _ _ _ _ _ _ c.index_maps-maps.ensures.maps_to c.word_lists-lists.ensures.worded;
+      twice_value = twice_told _ _ _ c.requires.sound c.requires.n_value _ _ _ _ _ _ _ domains objects indexed.maps_to.line lists.value first second third;
+      maps = maps_told _ _ _ c.requires.sound c.requires.n_value _ _ _ _ _ _ _ domains objects indexed.maps_to.line lists.value first second third _ _ _ _ indexed.maps_to;
+      distinct = distinct_told _ _ _ c.requires.sound c.requires.n_value _ _ _ _ _ _ _ domains objects indexed.maps_to.line lists.value first second third;
+      worded = words_told _ _ _ c.requires.sound c.requires.n_value _ _ _ _ _ _ _ domains objects indexed.maps_to.line lists.value first second third _ _ _ _ _ _ indexed.maps_to lists.worded;
     }

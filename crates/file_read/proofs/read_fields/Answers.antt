@@ -16,17 +16,17 @@ index_names-names-requires-clause-n_bound c = (search (rules, words_room), searc
 pub index_names-names-requires-clause-n_value : goal.index_names-names-requires-clause-n_value
 index_names-names-requires-clause-n_value c = search (rules, no_over)
 
-pub index_names-names-requires-clause-fresh : goal.index_names-names-requires-clause-fresh
-index_names-names-requires-clause-fresh c = search (rules, fresh_domains)
+pub index_names-names-requires-clause-objects_fresh : goal.index_names-names-requires-clause-objects_fresh
+index_names-names-requires-clause-objects_fresh c = search (rules, fresh_domains)
 
-pub index_names-names-requires-clause-fresh_2 : goal.index_names-names-requires-clause-fresh_2
-index_names-names-requires-clause-fresh_2 c = search (rules, fresh_domains)
+pub index_names-names-requires-clause-subjects_fresh : goal.index_names-names-requires-clause-subjects_fresh
+index_names-names-requires-clause-subjects_fresh c = search (rules, fresh_domains)
 
-pub index_names-names-requires-clause-fresh_3 : goal.index_names-names-requires-clause-fresh_3
-index_names-names-requires-clause-fresh_3 c = search (rules, fresh_members)
+pub index_names-names-requires-clause-functions_fresh : goal.index_names-names-requires-clause-functions_fresh
+index_names-names-requires-clause-functions_fresh c = search (rules, fresh_members)
 
-pub index_names-names-requires-clause-fresh_4 : goal.index_names-names-requires-clause-fresh_4
-index_names-names-requires-clause-fresh_4 c = search (rules, fresh_members)
+pub index_names-names-requires-clause-starts_fresh : goal.index_names-names-requires-clause-starts_fresh
+index_names-names-requires-clause-starts_fresh c = search (rules, fresh_members)
 
 pub refused-requires-then-twice-ne-NO_LINE : goal.refused-requires-then-twice-ne-NO_LINE
 refused-requires-then-twice-ne-NO_LINE c = search (rules, twice_fits)

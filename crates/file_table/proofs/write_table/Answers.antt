@@ -7,11 +7,11 @@ use Rattle.file_table.proofs.write_table.Goals as goal
 pub write_maps-members-requires-clause-n_in_bounds : goal.write_maps-members-requires-clause-n_in_bounds
 write_maps-members-requires-clause-n_in_bounds c = (search rules, search rules)
 
-pub write_maps-members-requires-clause-n_len_bound : goal.write_maps-members-requires-clause-n_len_bound
-write_maps-members-requires-clause-n_len_bound c = search (rules, objects_few)
+pub write_maps-members-requires-clause-few_objects : goal.write_maps-members-requires-clause-few_objects
+write_maps-members-requires-clause-few_objects c = search (rules, objects_few)
 
-pub write_maps-members-requires-clause-n_len_bound_2 : goal.write_maps-members-requires-clause-n_len_bound_2
-write_maps-members-requires-clause-n_len_bound_2 c = search (rules, functions_few)
+pub write_maps-members-requires-clause-few_subjects : goal.write_maps-members-requires-clause-few_subjects
+write_maps-members-requires-clause-few_subjects c = search (rules, functions_few)
 
 pub write_maps-members-requires-clause-out_len : goal.write_maps-members-requires-clause-out_len
 write_maps-members-requires-clause-out_len c = (search (rules, maps_long), search (rules, maps_unwritten))

@@ -22,8 +22,8 @@ slice_bounds-field_words-end c = search (rules, start_fits)
 pub field_words-w-requires-clause-i_value : goal.field_words-w-requires-clause-i_value
 field_words-w-requires-clause-i_value c = search (rules, field_spaced)
 
-pub field_words-w-requires-clause-i_in_bounds_2 : goal.field_words-w-requires-clause-i_in_bounds_2
-field_words-w-requires-clause-i_in_bounds_2 c = search (rules, own_room)
+pub field_words-w-requires-clause-room : goal.field_words-w-requires-clause-room
+field_words-w-requires-clause-room c = search (rules, own_room)
 
 pub overflow_add-w : goal.overflow_add-w
 overflow_add-w c = let turn = c.loop-i in

@@ -7,7 +7,9 @@ pub returns-then-not-is_marked : goal.returns-then-not-is_marked
 returns-then-not-is_marked c = search (rules, run_here)
 
 pub returns-then-not-is_marked-2 : goal.returns-then-not-is_marked-2
-returns-then-not-is_marked-2 c = run_next _ _ _ _ c.loop-i.invariant.1 c.loop-i-test.true _ c.is_marked.ensures c.if-not-is_marked.false-raw _ c.is_marked-in-loop-i.ensures c.if-not-is_marked-2.true-raw
+returns-then-not-is_marked-2 c =
+    run_next _ _ _ _ c.loop-i.invariant.1 c.loop-i-test.true _ c.is_marked.ensures c.if-not-is_marked.false-raw _ c.is_marked-in-loop-i.ensures
+    c.if-not-is_marked-2.true-raw
 
 pub loop-i-preserved : goal.loop-i-preserved
 loop-i-preserved c = (

@@ -7,7 +7,7 @@ pub returns-then-all_ranked : goal.returns-then-all_ranked
 returns-then-all_ranked c = sym (c.all_ranked.ensures c.if-all_ranked.true)
 
 pub returns-then-repeats_from : goal.returns-then-repeats_from
-returns-then-repeats_from c = sym (c.repeats_from.ensures.s_value c.if-repeats_from.true)
+returns-then-repeats_from c = sym (c.repeats_from.ensures.when_true c.if-repeats_from.true)
 
 pub returns : goal.returns
-returns c = said _ _ c.repeats_from-2.ensures.s_value c.repeats_from-2.ensures.s_value_2
+returns c = said _ _ c.repeats_from-2.ensures.when_true c.repeats_from-2.ensures.when_false

@@ -8,20 +8,20 @@ use Rattle.text_repeats.proofs.repeats_from.Goals as goal
 pub loop-end-init : goal.loop-end-init
 loop-end-init c = (search (rules, spaced_at_first), search (rules, first_yes), search (rules, first_not))
 
-pub returns-in-NoneLeft-clause-s_value : goal.returns-in-NoneLeft-clause-s_value
-returns-in-NoneLeft-clause-s_value c = λ t. absurd (false≢true t)
+pub returns-in-NoneLeft-clause-when_true : goal.returns-in-NoneLeft-clause-when_true
+returns-in-NoneLeft-clause-when_true c = λ t. absurd (false≢true t)
 
-pub returns-in-NoneLeft-clause-s_value_2 : goal.returns-in-NoneLeft-clause-s_value_2
-returns-in-NoneLeft-clause-s_value_2 c = λ t z. c.loop-end.invariant.2 z (search (rules, none_twice))
+pub returns-in-NoneLeft-clause-when_false : goal.returns-in-NoneLeft-clause-when_false
+returns-in-NoneLeft-clause-when_false c = λ t z. c.loop-end.invariant.2 z (search (rules, none_twice))
 
 pub stands_again-requires : goal.stands_again-requires
 stands_again-requires c = search (rules, found_from, found_to_lem, spaced_found)
 
-pub returns-then-stands_again-clause-s_value : goal.returns-then-stands_again-clause-s_value
-returns-then-stands_again-clause-s_value c = λ t. c.loop-end.invariant.1 (search (rules, twice_here))
+pub returns-then-stands_again-clause-when_true : goal.returns-then-stands_again-clause-when_true
+returns-then-stands_again-clause-when_true c = λ t. c.loop-end.invariant.1 (search (rules, twice_here))
 
-pub returns-then-stands_again-clause-s_value_2 : goal.returns-then-stands_again-clause-s_value_2
-returns-then-stands_again-clause-s_value_2 c = λ t. absurd (true≢false t)
+pub returns-then-stands_again-clause-when_false : goal.returns-then-stands_again-clause-when_false
+returns-then-stands_again-clause-when_false c = λ t. absurd (true≢false t)
 
 pub loop-end-smaller : goal.loop-end-smaller
 loop-end-smaller c = search (rules, found_less)

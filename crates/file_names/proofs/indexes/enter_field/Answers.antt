@@ -6,14 +6,14 @@ use Rattle.file_names.proofs.indexes.enter_field.Goals as goal
 pub enter_domain-requires-clause-index : goal.enter_domain-requires-clause-index
 enter_domain-requires-clause-index c = search (rules, as_domains)
 
-pub enter_domain-requires-clause-i_in_bounds_2 : goal.enter_domain-requires-clause-i_in_bounds_2
-enter_domain-requires-clause-i_in_bounds_2 c = search (rules, room_domains)
+pub enter_domain-requires-clause-room : goal.enter_domain-requires-clause-room
+enter_domain-requires-clause-room c = search (rules, room_domains)
 
 pub enter_members-requires-clause-index : goal.enter_members-requires-clause-index
 enter_members-requires-clause-index c = search (rules, as_members)
 
-pub enter_members-requires-clause-i_in_bounds_2 : goal.enter_members-requires-clause-i_in_bounds_2
-enter_members-requires-clause-i_in_bounds_2 c = search (rules, room_members)
+pub enter_members-requires-clause-room : goal.enter_members-requires-clause-room
+enter_members-requires-clause-room c = search (rules, room_members)
 
 pub returns-in-Domains : goal.returns-in-Domains
 returns-in-Domains c = search (rules, from_domains)

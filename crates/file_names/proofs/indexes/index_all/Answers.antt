@@ -13,8 +13,8 @@ enter_field-requires-clause-i_in_bounds c = search (rules, named_room)
 pub enter_field-requires-clause-i_value : goal.enter_field-requires-clause-i_value
 enter_field-requires-clause-i_value c = search (rules, named_spacing)
 
-pub enter_field-requires-clause-i_in_bounds_2 : goal.enter_field-requires-clause-i_in_bounds_2
-enter_field-requires-clause-i_in_bounds_2 c = search (rules, field_room (named c.args.naming))
+pub enter_field-requires-clause-room : goal.enter_field-requires-clause-room
+enter_field-requires-clause-room c = search (rules, field_room (named c.args.naming))
 
 pub line_of-requires : goal.line_of-requires
 line_of-requires c = search (rules, named_room)

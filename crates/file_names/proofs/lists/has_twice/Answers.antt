@@ -3,8 +3,8 @@ use Rattle.std.proofs.Common.{rules}
 use Rattle.file_names.proofs.Scanned.{field_spaced, field_small, starts_room, listed_once, listed_told}
 use Rattle.file_names.proofs.lists.has_twice.Goals as goal
 
-pub list_distinct-requires-clause-i_in_bounds_2 : goal.list_distinct-requires-clause-i_in_bounds_2
-list_distinct-requires-clause-i_in_bounds_2 c = search (rules, starts_room)
+pub list_distinct-requires-clause-starts_in_bounds : goal.list_distinct-requires-clause-starts_in_bounds
+list_distinct-requires-clause-starts_in_bounds c = search (rules, starts_room)
 
 pub returns-then-list_distinct : goal.returns-then-list_distinct
 returns-then-list_distinct c = search (rules, listed_once)

@@ -7,10 +7,10 @@ pub returns-then-ended : goal.returns-then-ended
 returns-then-ended c = search (rules, skip_ended)
 
 pub returns-then-skipped : goal.returns-then-skipped
-returns-then-skipped c = search (rules, skip_open, c.unended_step.ensures.by_index_2)
+returns-then-skipped c = search (rules, skip_open, c.unended_step.ensures.starts_in)
 
 pub returns-then-not-ended : goal.returns-then-not-ended
-returns-then-not-ended c = search (rules, line_open, c.unended_step-then-not-ended.ensures.by_index_2)
+returns-then-not-ended c = search (rules, line_open, c.unended_step-then-not-ended.ensures.starts_in)
 
 pub returns-then-is_left_empty : goal.returns-then-is_left_empty
 returns-then-is_left_empty c = search (rules, line_empty)
