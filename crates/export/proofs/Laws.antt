@@ -1,10 +1,15 @@
 -- What the exported functions need, as plain laws.
-use mathlib.Core.Path.{◌≡◌, ap, ◌∙◌}
+use mathlib.Core.Path.{◌≡◌, sym, ap, ◌∙◌}
+use mathlib.Core.Bool.{Bool, true, false, cond}
+use lib.Dec.{eqb}
 use mathlib.Core.List.{List}
 use Prim.Native.Nat.{ℕ, ◌-◌}
 use native.Mathlib.Omega.{arith}
 use lib.ListN.{length}
-use borrow.Author.Tests.{eq-eqb, ne_eqb}
+use borrow.Author.Tests.{ne_eqb}
+use Rattle.std.specs.Prelude.{Option, Some, None}
+use Rattle.std.proofs.lemmas.Option.{none-some, same_Some}
+use Rattle.export.specs.Numbered.{map_numbered}
 use Rattle.paper.specs.declared.Verdict.{Verdict}
 use Rattle.paper.specs.declared.Reading.{Reading}
 use Rattle.paper.specs.declared.Filling.{Filling}
@@ -66,19 +71,24 @@ module _ (t : List ℕ) (which : Map) (d : ℕ) (place : Place) (e : stretch_in 
 
 -- ---- of a map by its number
 
-module _ (t : List ℕ) (number d r : ℕ) where
-  pub by_objects : number ≡ 1 → r ≡ name_packed (lookup_answer t Objects d) → r ≡ name_packed (lookup_numbered t number d)
+module _ (t : List ℕ) (number d r : ℕ) (told : Option Map) (e : told ≡ map_numbered number) where
+  pub by_number : (which : Map) → told ≡ Some which → r ≡ name_packed (lookup_answer t which d) → r ≡ name_packed (lookup_numbered t number d)
   unfolding lookup_numbered
-  by_objects o h = rw (eq-eqb number 1 o) h
+  by_number which f h = go (eqb number 1) (eqb number 2) (sym e ∙ f)
+    where
+      go : (x y : Bool) → cond x (Some Objects) (cond y (Some Subjects) None) ≡ Some which → r ≡ name_packed (cond x (lookup_answer t Objects d) (cond y (lookup_answer t Subjects d) front))
+      go true y g = rw (same_Some Objects which g) h
+      go false true g = rw (same_Some Subjects which g) h
+      go false false g = absurd (none-some which g)
 
-  module _ (other : number ≡ 1 → ⊥) where
-    pub by_subjects : number ≡ 2 → r ≡ name_packed (lookup_answer t Subjects d) → r ≡ name_packed (lookup_numbered t number d)
-    unfolding lookup_numbered
-    by_subjects s h = rw (ne_eqb number 1 other, eq-eqb number 2 s) h
-
-    pub by_none : (number ≡ 2 → ⊥) → r ≡ packed (record { class = 1; value = 0; rest = 0 }) → r ≡ name_packed (lookup_numbered t number d)
-    unfolding lookup_numbered
-    by_none third h = rw (ne_eqb number 1 other, ne_eqb number 2 third) (packs_front r h)
+  pub by_none : told ≡ None → r ≡ packed (record { class = 1; value = 0; rest = 0 }) → r ≡ name_packed (lookup_numbered t number d)
+  unfolding lookup_numbered
+  by_none f h = go (eqb number 1) (eqb number 2) (sym e ∙ f)
+    where
+      go : (x y : Bool) → cond x (Some Objects) (cond y (Some Subjects) None) ≡ None → r ≡ name_packed (cond x (lookup_answer t Objects d) (cond y (lookup_answer t Subjects d) front))
+      go true y g = absurd (none-some Objects (sym g))
+      go false true g = absurd (none-some Subjects (sym g))
+      go false false g = packs_front r h
 
 pub packs_listing : (a answer : Listing) (r : ℕ) → r ≡ listing_packed a → a ≡ answer → r ≡ listing_packed answer
 packs_listing a answer r p e = p ∙ ap listing_packed e

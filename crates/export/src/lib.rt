@@ -24,6 +24,7 @@ pub fn dovetenon_well_formed(table: &[u16]) -> bool
     table_test::well_formed(table)
 }
 
+// Both judges have the arguments that the C interface gives them.
 pub fn dovetenon_judge(
     table: &[u16],
     operation: u16,
@@ -126,13 +127,10 @@ fn packed_name(text: &[u8], map: Map, domain: usize) -> u64
 pub fn dovetenon_name(text: &[u8], map: u16, domain: usize) -> u64
     ensures { result ≡ name_packed (lookup_numbered text.now map domain) }
 {
-    if map == map::OBJECTS {
-        return packed_name(text, Map::Objects, domain);
+    match map::numbered(map) {
+        Some(which) => packed_name(text, which, domain),
+        None => whole(class::NAME_NONE, 0, 0),
     }
-    if map == map::SUBJECTS {
-        return packed_name(text, Map::Subjects, domain);
-    }
-    whole(class::NAME_NONE, 0, 0)
 }
 
 fn packed_listing(listing: Listing) -> u64

@@ -1,6 +1,20 @@
-// The numbers of the maps (crates/paper/specs/Promises.antt). No other number is a map's.
-// The map of object domains.
-pub const OBJECTS: u16 = 1;
+// The numbers of the maps (crates/paper/specs/Promises.antt), as a caller in C gives them.
+ghost use Rattle.std.specs.Prelude.{◌≡◌};
+ghost use Rattle.export.specs.Numbered.{map_numbered};
 
-// The map of subject domains.
-pub const SUBJECTS: u16 = 2;
+use paper::Map;
+
+const OBJECTS: u16 = 1;
+
+const SUBJECTS: u16 = 2;
+
+// The map of a number. No other number is a map's.
+pub fn numbered(number: u16) -> Option<Map>
+    ensures { result ≡ map_numbered number }
+{
+    match number {
+        OBJECTS => Some(Map::Objects),
+        SUBJECTS => Some(Map::Subjects),
+        _ => None,
+    }
+}

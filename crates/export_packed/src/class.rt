@@ -1,4 +1,5 @@
-// The classes of the answers (crates/paper/specs/Answers.antt). No answer has class 0.
+// The classes of the answers (crates/paper/specs/Answers.antt), as numbers since C gets them (include/dovetenon.h).
+// No answer has class 0.
 pub const REFUSED: u16 = 1;
 
 // Of a verdict.

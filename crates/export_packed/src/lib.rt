@@ -34,6 +34,7 @@ pub fn whole(class: u16, value: u16, rest: u32) -> u64
     (half(class, value) as u64) + (rest as u64) * REST
 }
 
+// A function for each type of answer: a trait would be no plainer, since each is called at one type, and a report needs room.
 pub fn packed_verdict(verdict: Verdict) -> u32
     ensures { result ≡ verdict_packed verdict }
 {

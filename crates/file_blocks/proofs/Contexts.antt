@@ -26,6 +26,7 @@ use Rattle.file_index.specs.Buckets.{numbers_in}
 use Rattle.file_words.specs.Words.{words_in}
 use Rattle.file_blocks.specs.Written.{put_from, pattern_in, context_of_words, context_in, context_by, context_at, counts_by}
 use Rattle.file_blocks.proofs.Behind.{words_written}
+use Rattle.file_fields.specs.declared.file.FieldAt.{FieldAt}
 
 -- the subject's number and the counts of descriptors
 pub counts_written : (t ix : List ℕ) (n : ℕ) (fs : List Field) (v out : List ℕ) (a b c : ℕ) → v ≡ value_or (bytes "all") (bytes "[]") subject_of_entry fs
@@ -37,11 +38,11 @@ counts_written t ix n fs v out a b c ev ea eb ec =
     rw (ea, eb, ec, p) refl
 
 -- the context at a place, by its keys
-pub pattern_of : (words starts list : List ℕ) (place from to i most : ℕ) → i ≡ next_at list (place + 1) from (to - from)
+pub pattern_of : (words starts : List ℕ) (list : List FieldAt) (place from to i most : ℕ) → i ≡ next_at list (place + 1) from (to - from)
     → length (pattern_in words starts (next_at list (call_context_in place) from (to - from)) to) ≤ most → length (pattern_in words starts i to) ≤ most
 pattern_of words starts list place from to i most e few = rw e few
 
-pub context_at_lem : (t list words starts : List ℕ) (place from to : ℕ) → IsContext place → (uid gid namespace : List ℕ) (i : ℕ)
+pub context_at_lem : (t : List ℕ) (list : List FieldAt) (words starts : List ℕ) (place from to : ℕ) → IsContext place → (uid gid namespace : List ℕ) (i : ℕ)
     → uid ≡ value_or (bytes "all") (bytes "[]") (place + 2) (between t list from to) → gid ≡ value_or (bytes "all") (bytes "[]") (place + 3) (between t list from to)
     → namespace ≡ value_or (bytes "all") (bytes "[]") (place + 4) (between t list from to)
     → i ≡ next_at list (place + 1) from (to - from) → (out : List ℕ) → out ≡ context_of_words (pattern_in words starts i to) uid gid namespace

@@ -21,7 +21,7 @@ use Rattle.laws.proofs.Tests.{neither_left}
 use Rattle.laws.proofs.Places.{drop_zeros}
 use Rattle.laws.proofs.Stretches.{length_padded}
 use Rattle.laws_table.proofs.Grants.{length_grant}
-use Rattle.file_fields.specs.Fields.{field_size, between, next_at, value_in}
+use Rattle.file_fields.specs.Fields.{between, next_at, value_in}
 use Rattle.file_fields.specs.Places.{IsAccess, IsContext}
 use Rattle.file_fields.proofs.Places.{is_execution_context, is_object_context}
 use Rattle.file_index.specs.Buckets.{numbers_in}
@@ -32,6 +32,7 @@ use Rattle.file_blocks.proofs.Behind.{take_zeros, zero_behind, put_behind, words
 use Rattle.file_blocks.proofs.Contexts.{length_context, context_is}
 use Rattle.file_blocks.proofs.Granted.{grant_is}
 use Rattle.file_blocks.proofs.Placed.{pattern_few, context_in_lem, calls_in, returns_in_lem, objects_in_lem}
+use Rattle.file_fields.specs.declared.file.FieldAt.{FieldAt}
 
 -- ---- a grant
 
@@ -45,7 +46,7 @@ module _ (out : List ℕ) (z : out ≡ replicate grant_size 0) where
   pub room_for_set : 1 ≤ length out
   room_for_set = omega (arith, grant_long)
 
-  module _ (t list words starts : List ℕ) (place from to n i : ℕ) (a : Bool) (q : i ≡ next_at list place from (to - from)) (p : a ≡ every_in t list i to) where
+  module _ (t : List ℕ) (list : List FieldAt) (words starts : List ℕ) (place from to n i : ℕ) (a : Bool) (q : i ≡ next_at list place from (to - from)) (p : a ≡ every_in t list i to) where
     pub every_written : a ≡ true → set out 0 1 ≡ grant_in t list words starts place from to n
     unfolding grant_in
     every_written h = rw (← q, z, ← p, h) refl
@@ -58,7 +59,7 @@ module _ (out : List ℕ) (z : out ≡ replicate grant_size 0) where
         rw (← q, z, ← p, h, w) (ap (λ (l : List ℕ). 0 ∷ l) (append-nil (with_words n (replicate set_size 0) (words_in words starts i))))
 
 -- whether a field grants every domain
-module _ (t list : List ℕ) (i to : ℕ) where
+module _ (t : List ℕ) (list : List FieldAt) (i to : ℕ) where
   pub every_omitted : to ≤ i → true ≡ every_in t list i to
   unfolding every_in
   every_omitted h = rw (le-leb to i h) refl
@@ -72,9 +73,6 @@ module _ (t list : List ℕ) (i to : ℕ) where
   words_stand a long e h l = omega (arith, leb-false to i (neither_left _ _ (sym e ∙ h)))
 
 -- the fields of a part of the file stand in the list too
-pub fields_within : (n to long : ℕ) → field_size * n ≤ long → to ≤ n → field_size * to ≤ long
-fields_within n to long h l = omega arith
-
 -- and where their words start
 pub starts_within : (n to long : ℕ) → to ≤ n → n < long → to < long
 starts_within n to long l h = omega arith
@@ -157,7 +155,7 @@ parts_joined : (xs calls returns : List ℕ) (a b c : ℕ) → xs ++ (a ∷ b �
 parts_joined xs calls returns a b c = rw (append_assoc, append_assoc, append_assoc) refl
 
 -- the context and the grants by the words of a file of n fields
-module _ (t list words starts : List ℕ) (n from to : ℕ) (within : to ≤ n) (worded : Worded (numbers_of (between t list 0 n)) t list n words starts) where
+module _ (t : List ℕ) (list : List FieldAt) (words starts : List ℕ) (n from to : ℕ) (within : to ≤ n) (worded : Worded (numbers_of (between t list 0 n)) t list n words starts) where
   -- the file, and the fields of the entry or of the item
   abbrev file : List Field
   file = between t list 0 n

@@ -23,7 +23,7 @@ use Rattle.laws.proofs.Tests.{up_to_all, eqb_same, same_refl, same_equal, same_t
 use Rattle.laws.proofs.Counting.{length_map_counted, get_d_counted}
 use Rattle.laws.proofs.Stretches.{Stands}
 use Rattle.laws.proofs.Sets.{contains_after_insert}
-use Rattle.file_index.proofs.Names.{same_sym}
+use Rattle.file_index.proofs.Numbers.{same_sym}
 use Rattle.laws_table.proofs.Grants.{length_grant, grant_stands}
 use Rattle.file_blocks.specs.Written.{with_word, with_words, grant_by}
 

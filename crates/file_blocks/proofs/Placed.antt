@@ -18,7 +18,7 @@ use Rattle.paper.specs.Entries.{call_contexts, default_at, value_at}
 use Rattle.paper.specs.Rules.{subject_lists, object_lists, domains_at}
 use Rattle.paper.specs.Policy.{element_of}
 use Rattle.paper.specs.Table.{element_word}
-use Rattle.file_fields.specs.Fields.{value_in, field_at, between, next_at}
+use Rattle.file_fields.specs.Fields.{field_of, value_in, field_at, between, next_at}
 use Rattle.file_fields.specs.Places.{IsAccess, IsContext}
 use Rattle.file_fields.proofs.Between.{next_at_place, value_is_omitted, value_found, value_or_lem}
 use Rattle.file_fields.proofs.Places.{pattern_default, call_default, return_default, objects_default}
@@ -27,6 +27,7 @@ use Rattle.file_words.specs.declared.places.Sought.TheVariants.{Subjects, Object
 use Rattle.file_words.specs.Words.{Numbers, numbers_of, words_by, field_words, words_in, Worded}
 use Rattle.file_words.proofs.Worded.{words_of_field}
 use Rattle.file_blocks.specs.Written.{pattern_in, context_in, every_in, grant_in, context_by, context_at, grant_by}
+use Rattle.file_fields.specs.declared.file.FieldAt.{FieldAt}
 
 -- ---- what is looked up at the places of an entry
 
@@ -65,7 +66,7 @@ pattern_of_all file = refl
 
 -- ---- the words at a place, among the fields from one number up to another of the file's n
 
-module _ (t list words starts : List ℕ) (n from to : ℕ) (within : to ≤ n)
+module _ (t : List ℕ) (list : List FieldAt) (words starts : List ℕ) (n from to : ℕ) (within : to ≤ n)
     (worded : Worded (numbers_of (between t list 0 n)) t list n words starts) where
   -- what numbers names, and the fields
   abbrev numbers : Numbers
@@ -92,7 +93,7 @@ module _ (t list words starts : List ℕ) (n from to : ℕ) (within : to ≤ n)
     elements_next h = ap elements (value_next h) ∙ elements_meant v
 
     words_next : next < to → words_in words starts next ≡ words_by numbers (sought_at place) v
-    unfolding field_words field_at
+    unfolding field_words field_of
     words_next h = words_of_field numbers t list n words starts worded next (omega arith) ∙ rw (next_at_place t list place from to h) refl
 
     -- a grant

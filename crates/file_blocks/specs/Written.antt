@@ -9,7 +9,8 @@ use Rattle.paper.specs.Page.{Field}
 use Rattle.paper.specs.Entries.{value_at}
 use Rattle.paper.specs.Rules.{descriptors_of}
 use Rattle.paper.specs.Table.{every_word, set_size, padded, with_domain}
-use Rattle.file_fields.specs.Fields.{place_in, between, next_at, value_in}
+use Rattle.file_fields.specs.declared.file.FieldAt.{FieldAt}
+use Rattle.file_fields.specs.Fields.{between, next_at, value_in}
 use Rattle.file_words.specs.Words.{words_in}
 
 -- words written over those from number i on, one behind the other
@@ -29,26 +30,17 @@ context_of_words pattern uid gid namespace =
     length pattern ∷ sort_number (sort_of uid) ∷ sort_number (sort_of gid) ∷ sort_number (sort_of namespace) ∷ padded most_elements pattern
 
 -- those of the context at a place, among the fields from one number up to another
-unfoldable pub context_in : List ℕ → List ℕ → List ℕ → List ℕ → ℕ → ℕ → ℕ → List ℕ
+unfoldable pub context_in : List ℕ → List FieldAt → List ℕ → List ℕ → ℕ → ℕ → ℕ → List ℕ
 context_in t list words starts place from to =
     context_of_words (pattern_in words starts (next_at list (call_context_in place) from (to - from)) to)
     (value_at (uid_in place) (between t list from to))
     (value_at (gid_in place) (between t list from to))
     (value_at (namespace_in place) (between t list from to))
 
--- a place is that of a key of the context at another
-abbrev pub is_key : ℕ → ℕ → Bool
-is_key place p = ltb place p && leb p (namespace_in place)
-
--- the number of the next field at such a key among k fields from number i on; where there is none, the number behind them
-unfoldable pub next_key : List ℕ → ℕ → ℕ → ℕ → ℕ
-next_key list place i zero = i
-next_key list place i (suc k) = cond (is_key place (place_in list i)) i (next_key list place (i + 1) k)
-
 -- ---- grants
 
 -- field i grants every domain, or there is no such field in front of another
-unfoldable pub every_in : List ℕ → List ℕ → ℕ → ℕ → Bool
+unfoldable pub every_in : List ℕ → List FieldAt → ℕ → ℕ → Bool
 every_in t list i to = leb to i || is "all" (value_in t list i)
 
 -- a set of domains with this one in it; a number that is not below n is none
@@ -61,7 +53,7 @@ with_words n domains [] = domains
 with_words n domains (d ∷ ds) = with_words n (with_word n domains d) ds
 
 -- the words of the grant at a place, among the fields from one number up to another, by those of its names, of which there are n
-unfoldable pub grant_in : List ℕ → List ℕ → List ℕ → List ℕ → ℕ → ℕ → ℕ → ℕ → List ℕ
+unfoldable pub grant_in : List ℕ → List FieldAt → List ℕ → List ℕ → ℕ → ℕ → ℕ → ℕ → List ℕ
 grant_in t list words starts place from to n =
     cond (every_in t list (next_at list place from (to - from)) to)
     (every_word ∷ replicate set_size 0)

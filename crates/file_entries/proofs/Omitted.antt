@@ -1,33 +1,22 @@
 -- A value of an entry, and what an omitted one means.
-use mathlib.Core.Path.{◌≡◌, refl, ◌∙◌}
+use mathlib.Core.Path.{◌≡◌, refl, ap, ◌∙◌}
+use mathlib.Core.Bool.{Bool, true, false, cond}
 use mathlib.Core.List.{List}
 use Prim.Native.Nat.{ℕ}
+use lib.Dec.{eqb}
 use Rattle.paper.specs.Common.{bytes, any_of}
-use Rattle.paper.specs.Listing.{subject_of_entry, execution_context, call_context_in, uid_in, gid_in, namespace_in}
 use Rattle.paper.specs.Page.{Field}
 use Rattle.paper.specs.Entries.{call_contexts, default_at, value_at}
 use Rattle.file_fields.specs.Fields.{value_or}
-use Rattle.file_fields.proofs.Between.{value_or_lem}
+use Rattle.file_fields.proofs.Places.{told_value}
 
-pub value_is : (place : ℕ) (fs : List Field) (v omitted : List ℕ) → omitted ≡ default_at place → v ≡ value_or omitted (bytes "[]") place fs → v ≡ value_at place fs
-value_is place fs v omitted e q = q ∙ rw e (value_or_lem place fs)
+module _ (place : ℕ) (fs : List Field) (b : Bool) (e : b ≡ any_of (eqb place) call_contexts) (v : List ℕ) where
+  default_is : default_at place ≡ cond b (bytes "[all]") (bytes "all")
+  unfolding default_at
+  default_is = rw e refl
 
-pub subject_omitted : bytes "all" ≡ default_at subject_of_entry
-unfolding default_at call_contexts any_of
-subject_omitted = refl
+  pub pattern_told : b ≡ true → v ≡ value_or (bytes "[all]") (bytes "[]") place fs → v ≡ value_at place fs
+  pattern_told h q = told_value place fs (bytes "[all]") v (default_is ∙ ap (λ (x : Bool). cond x (bytes "[all]") (bytes "all")) h) q
 
-pub pattern_omitted : bytes "[all]" ≡ default_at (call_context_in execution_context)
-unfolding default_at call_contexts any_of
-pattern_omitted = refl
-
-pub uid_omitted : bytes "all" ≡ default_at (uid_in execution_context)
-unfolding default_at call_contexts any_of
-uid_omitted = refl
-
-pub gid_omitted : bytes "all" ≡ default_at (gid_in execution_context)
-unfolding default_at call_contexts any_of
-gid_omitted = refl
-
-pub namespace_omitted : bytes "all" ≡ default_at (namespace_in execution_context)
-unfolding default_at call_contexts any_of
-namespace_omitted = refl
+  pub all_told : b ≡ false → v ≡ value_or (bytes "all") (bytes "[]") place fs → v ≡ value_at place fs
+  all_told h q = told_value place fs (bytes "all") v (default_is ∙ ap (λ (x : Bool). cond x (bytes "[all]") (bytes "all")) h) q

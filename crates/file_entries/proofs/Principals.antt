@@ -7,32 +7,28 @@ use native.Mathlib.Omega.{arith}
 use lib.Dec.{eqb}
 use lib.ListN.{get_or}
 use borrow.Author.Tests.{eqb-true}
-use Rattle.paper.specs.Common.{bytes, same}
+use Rattle.paper.specs.Common.{same}
 use Rattle.paper.specs.Listing.{subject_of_entry, execution_context, call_context_in, uid_in, gid_in, namespace_in}
 use Rattle.paper.specs.Scalars.{Sort, anyone, variable, root, user, sort_number, sort_of}
 use Rattle.paper.specs.Page.{Field}
-use Rattle.paper.specs.Entries.{default_at, value_at}
+use Rattle.paper.specs.Entries.{value_at}
 use Rattle.paper.specs.Rules.{same_sort, same_sort_at, same_principal}
 use Rattle.laws.proofs.Tests.{same_equal, both_left, both_right}
-use Rattle.file_fields.specs.Fields.{value_or}
+use Rattle.file_fields.specs.declared.file.FieldAt.{FieldAt}
 use Rattle.file_entries.specs.Weights.{weight_of}
-use Rattle.file_entries.specs.Principals.{sorts, weight_at, sort_at, principal_hash, entry_in, Hashed}
-use Rattle.file_entries.proofs.Omitted.{value_is}
+use Rattle.file_entries.specs.Principals.{sorts, weight_at, sort_at, principal_hash, entry_in, AllHashed}
+use Rattle.file_entries.specs.declared.Bounds.{Bounds}
 
 -- ---- one part of a principal
 
-module _ (place : ℕ) (fs : List Field) (v omitted : List ℕ) (d : omitted ≡ default_at place) (q : v ≡ value_or omitted (bytes "[]") place fs) where
+module _ (place : ℕ) (fs : List Field) (v : List ℕ) (q : v ≡ value_at place fs) where
   pub weight_is : (r : ℕ) → r ≡ weight_of v → r ≡ weight_at place fs
   unfolding weight_at
-  weight_is r e = e ∙ ap weight_of (value_is place fs v omitted d q)
+  weight_is r e = e ∙ ap weight_of q
 
   pub sort_is : (r : ℕ) → r ≡ sort_number (sort_of v) → r ≡ sort_at place fs
   unfolding sort_at
-  sort_is r e = e ∙ ap (λ (x : List ℕ). sort_number (sort_of x)) (value_is place fs v omitted d q)
-
-  module _ (gs : List Field) (w : List ℕ) (p : w ≡ value_or omitted (bytes "[]") place gs) where
-    pub values_are : (r : Bool) → r ≡ same v w → r ≡ same (value_at place fs) (value_at place gs)
-    values_are r e = rw (← value_is place fs v omitted d q, ← value_is place gs w omitted d p) e
+  sort_is r e = e ∙ ap (λ (x : List ℕ). sort_number (sort_of x)) q
 
 sort_below : (s : Sort) → sort_number s < sorts
 unfolding sort_number
@@ -61,7 +57,8 @@ unfolding same_principal same_sort_at
 principal_is a b s p u g n e f h k l = rw (e, f, h, k, l) refl
 
 pub principal_hash_is : (entry : List Field) (s p u g n : ℕ)
-    → s ≡ weight_at subject_of_entry entry → p ≡ weight_at (call_context_in execution_context) entry → u ≡ sort_at (uid_in execution_context) entry → g ≡ sort_at (gid_in execution_context) entry
+    → s ≡ weight_at subject_of_entry entry → p ≡ weight_at (call_context_in execution_context) entry
+    → u ≡ sort_at (uid_in execution_context) entry → g ≡ sort_at (gid_in execution_context) entry
     → n ≡ sort_at (namespace_in execution_context) entry → (4 * (4 * (4 * (s + p) + u) + g) + n) % 4294967296 ≡ principal_hash entry
 unfolding principal_hash
 principal_hash_is entry s p u g n e f h k l = rw (e, f, h, k, l) refl
@@ -81,10 +78,10 @@ same_hashes a b h =
     let namespace = sorts_alike namespace_in a b (search (both_left, both_right) depth 7) in
     rw (subject, pattern, uid, gid, namespace) refl
 
-module _ (t list starts hashes : List ℕ) (a b : ℕ) where
-  pub other_hash : Hashed t list starts hashes a → Hashed t list starts hashes b → (get_or hashes a 0 ≡ get_or hashes b 0 → ⊥) → false ≡ same_principal (entry_in t list starts a) (entry_in t list starts b)
-  other_hash p q d = go (same_principal (entry_in t list starts a) (entry_in t list starts b)) refl
+module _ (t : List ℕ) (list : List FieldAt) (bounds : List Bounds) (hashes : List ℕ) (n : ℕ) (all : AllHashed t list bounds hashes n) (a b : ℕ) where
+  pub other_hash : a < n → b < n → (get_or hashes a 0 ≡ get_or hashes b 0 → ⊥) → false ≡ same_principal (entry_in t list bounds a) (entry_in t list bounds b)
+  other_hash p q d = go (same_principal (entry_in t list bounds a) (entry_in t list bounds b)) refl
     where
-      go : (r : Bool) → same_principal (entry_in t list starts a) (entry_in t list starts b) ≡ r → false ≡ r
-      go true e = absurd (d (p.hash ∙ same_hashes (entry_in t list starts a) (entry_in t list starts b) e ∙ sym q.hash))
+      go : (r : Bool) → same_principal (entry_in t list bounds a) (entry_in t list bounds b) ≡ r → false ≡ r
+      go true e = absurd (d ((all a p).hash ∙ same_hashes (entry_in t list bounds a) (entry_in t list bounds b) e ∙ sym (all b q).hash))
       go false e = refl

@@ -3,54 +3,51 @@ use mathlib.Core.Path.{◌≡◌, refl, sym, ◌∙◌}
 use mathlib.Core.Bool.{Bool, true, false, not, ◌&&◌, ◌||◌, or-false}
 use mathlib.Core.Logic.{⊎_elim}
 use mathlib.Core.List.{List, map}
-use Prim.Native.Nat.{ℕ, ◌+◌, ◌-◌, ◌<◌, ◌≤◌}
+use Prim.Native.Nat.{ℕ, ◌+◌, ◌<◌, ◌≤◌}
 use native.Mathlib.Omega.{arith}
 use lib.Dec.{eqb}
+use lib.ListN.{length}
 use borrow.Author.Tests.{eq-eqb, ne_eqb, lt-ltb, le-ltb, not-true, not-false}
-use Rattle.paper.specs.Common.{bytes, any_of, same}
+use Rattle.paper.specs.Common.{any_of, same}
 use Rattle.paper.specs.Listing.{principal, execution_context, can_read, can_write, object_context_in}
 use Rattle.paper.specs.Scalars.{is_variable}
 use Rattle.paper.specs.Page.{Field}
-use Rattle.paper.specs.Entries.{is_at_one, default_at, value_at, entries_of}
+use Rattle.paper.specs.Entries.{is_at_one, value_at}
 use Rattle.paper.specs.Rules.{earlier, earliest, first_with, in_object_contexts, is_unbound_key, is_unbound, unbound_variable}
 use Rattle.laws.proofs.Tests.{same_or_not, le_or_lt, both_false}
-use Rattle.file_fields.specs.Fields.{place_in, value_in, field_at, between, next_at, value_or}
+use Rattle.file_fields.specs.Fields.{value_of, field_of}
+use Rattle.file_fields.specs.Stretches.{fields_of, stretch_of, left_of, Begins, IsNext}
+use Rattle.file_fields.specs.declared.file.FieldAt.{FieldAt}
+use Rattle.file_fields.specs.declared.file.File.{File}
+use Rattle.file_fields.specs.declared.stretch.Stretch.{Stretch}
+use Rattle.file_fields.specs.declared.stretch.Stretches.{Stretches}
+use Rattle.file_fields.proofs.Left.{left_entries, left_more, left_none}
 use Rattle.file_entries.specs.Keys.{key_in}
-use Rattle.file_entries.proofs.Omitted.{value_is}
-use Rattle.file_fields.proofs.Entries.{entries_first, entries_more, entries_none}
 
 -- ---- one key of one field
 
-pub object_key : (list : List ℕ) (key i p : ℕ) → p ≡ place_in list i
-    → (eqb p (object_context_in can_read + key) || eqb p (object_context_in can_write + key)) ≡ any_of (eqb (place_in list i)) (in_object_contexts (key_in key))
+pub object_key : (f : FieldAt) (key p : ℕ) → p ≡ f.place
+    → (eqb p (object_context_in can_read + key) || eqb p (object_context_in can_write + key)) ≡ any_of (eqb f.place) (in_object_contexts (key_in key))
 unfolding any_of in_object_contexts key_in
-object_key list key i p e = rw (← e, or-false) refl
+object_key f key p e = rw (← e, or-false) refl
 
-module _ (t list v : List ℕ) (i : ℕ) (f : v ≡ value_in t list i) (r : Bool) where
-  pub variable_held : r ≡ is_variable v → r ≡ is_variable (value_in t list i)
-  variable_held e = rw (← f) e
-
-  pub own_is : (place : ℕ) (entry : List Field) (own : List ℕ) → bytes "all" ≡ default_at place → own ≡ value_or (bytes "all") (bytes "[]") place entry → r ≡ same v own
-      → r ≡ same (value_in t list i) (value_at place entry)
-  own_is place entry own d g e = rw (← f, ← value_is place entry own (bytes "all") d g) e
-
-module _ (t list : List ℕ) (key i : ℕ) (entry : List Field) where
-  key_is : is_unbound_key (key_in key) entry (field_at t list i)
-      ≡ (any_of (eqb (place_in list i)) (in_object_contexts (key_in key)) && is_variable (value_in t list i) && not (same (value_in t list i) (value_at (execution_context + key) entry)))
-  unfolding is_unbound_key is_at_one field_at key_in
+module _ (t : List ℕ) (f : FieldAt) (key : ℕ) (entry : List Field) where
+  key_is : is_unbound_key (key_in key) entry (field_of t f)
+      ≡ (any_of (eqb f.place) (in_object_contexts (key_in key)) && is_variable (value_of t f) && not (same (value_of t f) (value_at (execution_context + key) entry)))
+  unfolding is_unbound_key is_at_one field_of key_in
   key_is = refl
 
-  module _ (a : Bool) (e : a ≡ any_of (eqb (place_in list i)) (in_object_contexts (key_in key))) where
-    pub no_key : not a ≡ true → false ≡ is_unbound_key (key_in key) entry (field_at t list i)
+  module _ (a : Bool) (e : a ≡ any_of (eqb f.place) (in_object_contexts (key_in key))) where
+    pub no_key : not a ≡ true → false ≡ is_unbound_key (key_in key) entry (field_of t f)
     no_key h = sym (key_is ∙ rw (← e, not-true a h) refl)
 
-  module _ (b : Bool) (e : b ≡ is_variable (value_in t list i)) where
-    pub no_variable : not b ≡ true → false ≡ is_unbound_key (key_in key) entry (field_at t list i)
-    no_variable h = sym (key_is ∙ rw (← e, not-true b h, both_false _ false refl) refl)
+    module _ (v : List ℕ) (g : v ≡ value_of t f) (b : Bool) (k : b ≡ is_variable v) where
+      pub no_variable : not b ≡ true → false ≡ is_unbound_key (key_in key) entry (field_of t f)
+      no_variable h = sym (key_is ∙ rw (← g, ← k, not-true b h, both_false _ false refl) refl)
 
-  pub key_variable : (a b s : Bool) → a ≡ any_of (eqb (place_in list i)) (in_object_contexts (key_in key)) → not a ≡ false → b ≡ is_variable (value_in t list i) → not b ≡ false
-      → s ≡ same (value_in t list i) (value_at (execution_context + key) entry) → not s ≡ is_unbound_key (key_in key) entry (field_at t list i)
-  key_variable a b s e h f k g = sym (key_is ∙ rw (← e, not-false a h, ← f, not-false b k, ← g) refl)
+      pub key_variable : not a ≡ false → not b ≡ false → (w : List ℕ) → w ≡ value_at (execution_context + key) entry → (s : Bool) → s ≡ same v w
+          → not s ≡ is_unbound_key (key_in key) entry (field_of t f)
+      key_variable h l w p s q = sym (key_is ∙ rw (← e, not-false a h, ← g, ← k, not-false b l, ← p, ← q) refl)
 
 pub any_key : (entry : List Field) (f : Field) (a b c : Bool) → a ≡ is_unbound_key (key_in 2) entry f → b ≡ is_unbound_key (key_in 3) entry f → c ≡ is_unbound_key (key_in 4) entry f
     → (a || b || c) ≡ is_unbound entry f
@@ -58,15 +55,15 @@ unfolding is_unbound key_in
 any_key entry f a b c p q r = rw (p, q, r) refl
 
 -- the keys of object contexts stand behind the first such context
-module _ (t list : List ℕ) (i p : ℕ) (entry : List Field) (e : p ≡ place_in list i) (h : p < object_context_in can_read) where
-  before_key : (key : ℕ) → false ≡ is_unbound_key (key_in key) entry (field_at t list i)
+module _ (t : List ℕ) (f : FieldAt) (p : ℕ) (entry : List Field) (e : p ≡ f.place) (h : p < object_context_in can_read) where
+  before_key : (key : ℕ) → false ≡ is_unbound_key (key_in key) entry (field_of t f)
   before_key key =
       let none : false ≡ (eqb p (object_context_in can_read + key) || eqb p (object_context_in can_write + key)) =
       rw (ne_eqb p (object_context_in can_read + key) (λ q. omega arith), ne_eqb p (object_context_in can_write + key) (λ q. omega arith)) refl in
-      no_key t list key i entry false (none ∙ object_key list key i p e) refl
+      no_key t f key entry false (none ∙ object_key f key p e) refl
 
-  pub before_keys : false ≡ is_unbound entry (field_at t list i)
-  before_keys = any_key entry (field_at t list i) false false false (before_key 2) (before_key 3) (before_key 4)
+  pub before_keys : false ≡ is_unbound entry (field_of t f)
+  before_keys = any_key entry (field_of t f) false false false (before_key 2) (before_key 3) (before_key 4)
 
 -- ---- the smallest line
 
@@ -115,20 +112,18 @@ module _ (a b c : ℕ) where
 abbrev pub unbound_in : List (List Field) → ℕ
 unbound_in entries = earliest (map (λ entry. first_with (is_unbound entry) entry) entries)
 
-module _ (t list : List ℕ) (n : ℕ) where
-  pub unbound_starts : (from : ℕ) → from ≡ next_at list principal 0 (n - 0) → earlier 0 (unbound_in (entries_of (between t list from n))) ≡ unbound_variable (between t list 0 n)
-  unfolding unbound_variable
-  unbound_starts from e = rw (entries_first list 0 n from e t (omega arith)) (none_earlier _)
+pub unbound_starts : (file : File) (s : Stretches) → Begins file principal 0 (length file.fields.now) s → earlier 0 (unbound_in (left_of s)) ≡ unbound_variable (fields_of file)
+unfolding unbound_variable
+unbound_starts file s b = rw (left_entries file s b) (none_earlier _)
 
-  module _ (line from whole : ℕ) (inv : earlier line (unbound_in (entries_of (between t list from n))) ≡ whole) where
-    pub unbound_on : (to one line' : ℕ) → from < n → next_at list principal from (n - from) ≡ from → to ≡ next_at list principal (from + 1) (n - (from + 1))
-        → one ≡ first_with (is_unbound (between t list from to)) (between t list from to) → line' ≡ earlier line one
-        → earlier line' (unbound_in (entries_of (between t list to n))) ≡ whole
-    unfolding earliest
-    unbound_on to one line' h s e f g =
-        let step : earlier line (earlier one (unbound_in (entries_of (between t list to n)))) ≡ whole = rw (entries_more list from n to h e t s, ← f) at inv in
-        rw g (sym (earlier_assoc line one (unbound_in (entries_of (between t list to n)))) ∙ step)
+module _ (s : Stretches) (line whole : ℕ) (inv : earlier line (unbound_in (left_of s)) ≡ whole) where
+  pub unbound_on : (x : Stretch) (r : Stretches) → IsNext s x r → (one line' : ℕ) → one ≡ first_with (is_unbound (stretch_of x)) (stretch_of x) → line' ≡ earlier line one
+      → earlier line' (unbound_in (left_of r)) ≡ whole
+  unfolding earliest
+  unbound_on x r n one line' f g =
+      let step : earlier line (earlier one (unbound_in (left_of r))) ≡ whole = rw (left_more s x r n, ← f) at inv in
+      rw g (sym (earlier_assoc line one (unbound_in (left_of r))) ∙ step)
 
-    pub unbound_ends : n ≤ from → line ≡ whole
-    unfolding earliest
-    unbound_ends h = sym (earlier_none line) ∙ (rw (entries_none t list from n h) at inv)
+  pub unbound_ends : s.rest.from ≡ s.rest.to → line ≡ whole
+  unfolding earliest
+  unbound_ends h = sym (earlier_none line) ∙ (rw (left_none s h) at inv)

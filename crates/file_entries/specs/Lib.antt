@@ -1,3 +1,4 @@
 pub mod Keys
 pub mod Weights
 pub mod Principals
+pub mod Passed

@@ -4,7 +4,9 @@ use Rattle.paper.specs.Listing.{subject_of_entry, execution_context, call_contex
 use Rattle.paper.specs.Scalars.{sort_number, sort_of}
 use Rattle.paper.specs.Page.{Field}
 use Rattle.paper.specs.Entries.{value_at}
-use Rattle.file_fields.specs.Fields.{field_size, between}
+use Rattle.file_fields.specs.Fields.{between}
+use Rattle.file_fields.specs.declared.file.FieldAt.{FieldAt}
+use Rattle.file_entries.specs.declared.Bounds.{Bounds}
 use Rattle.file_index.specs.Buckets.{hashes}
 use Rattle.file_entries.specs.Weights.{weight_of}
 
@@ -34,27 +36,27 @@ principal_hash entry =
 abbrev pub is_other_hash : List ℕ → ℕ → ℕ → Bool
 is_other_hash hashes k j = not (eqb (get_or hashes j 0) (get_or hashes k 0))
 
--- room for the starts of the entries, and for the end of the last
-abbrev pub starts_size : ℕ
-starts_size = 129
+-- what is looked at where no entry is
+abbrev pub no_bounds : Bounds
+no_bounds = record { from = 0; to = 0 }
 
--- entry j: from its start up to that of the next
-abbrev pub entry_in : List ℕ → List ℕ → List ℕ → ℕ → List Field
-entry_in t list starts j = between t list (get_or starts j 0) (get_or starts (j + 1) 0)
+-- entry j: from its first field up to the next entry's
+abbrev pub entry_in : List ℕ → List FieldAt → List Bounds → ℕ → List Field
+entry_in t list bounds j = between t list (get_or bounds j no_bounds).from (get_or bounds j no_bounds).to
 
 -- the entries below number j, the last first
-unfoldable pub entries_below : List ℕ → List ℕ → List ℕ → ℕ → List (List Field)
-entries_below t list starts zero = []
-entries_below t list starts (suc j) = entry_in t list starts j ∷ entries_below t list starts j
+unfoldable pub entries_below : List ℕ → List FieldAt → List Bounds → ℕ → List (List Field)
+entries_below t list bounds zero = []
+entries_below t list bounds (suc j) = entry_in t list bounds j ∷ entries_below t list bounds j
 
--- entry j ends within the list and has its hash
-pub record Hashed (t list starts hashes : List ℕ) (j : ℕ) : Type 0 where
-  pub start : j + 1 < length starts
+-- entry j stands within the list and has its hash
+pub record Hashed (t : List ℕ) (list : List FieldAt) (bounds : List Bounds) (hashes : List ℕ) (j : ℕ) : Type 0 where
+  pub start : j < length bounds
   pub room : j < length hashes
-  pub end : field_size * get_or starts (j + 1) 0 ≤ length list
-  pub hash : get_or hashes j 0 ≡ principal_hash (entry_in t list starts j)
+  pub order : (get_or bounds j no_bounds).from ≤ (get_or bounds j no_bounds).to
+  pub end : (get_or bounds j no_bounds).to ≤ length list
+  pub hash : get_or hashes j 0 ≡ principal_hash (entry_in t list bounds j)
 
--- so does each of those below number j
-unfoldable pub AllHashed : List ℕ → List ℕ → List ℕ → List ℕ → ℕ → Type 0
-AllHashed t list starts hashes zero = Unit
-AllHashed t list starts hashes (suc j) = Hashed t list starts hashes j × AllHashed t list starts hashes j
+-- so does each of those below number n
+abbrev pub AllHashed : List ℕ → List FieldAt → List Bounds → List ℕ → ℕ → Type 0
+AllHashed t list bounds hashes n = (j : ℕ) → j < n → Hashed t list bounds hashes j

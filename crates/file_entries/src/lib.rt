@@ -1,19 +1,22 @@
-// 10 and 11 over the list of a text's fields, entry by entry.
+// 10 and 11 over the list of a text's fields, entry by entry. A line that is none is 0, as the paper's rules have it.
 #![tactic(auto)]
 
-ghost use Rattle.std.specs.Prelude.{◌≡◌, ◌+◌, ◌*◌, ◌/◌, ◌<◌, ◌≤◌, eqb, length, get_or};
-ghost use Rattle.paper.specs.Common.{bytes, any_of, same, up_to};
+ghost use Rattle.std.specs.Prelude.{◌≡◌, ◌+◌, ◌*◌, ◌/◌, ◌<◌, ◌≤◌, eqb, length};
+ghost use Rattle.paper.specs.Common.{any_of, same, up_to};
 ghost use Rattle.paper.specs.Limits.{most_entries};
-ghost use Rattle.paper.specs.Listing.{execution_context, context_places};
-ghost use Rattle.paper.specs.Scalars.{is_variable};
-ghost use Rattle.paper.specs.Entries.{default_at, value_at, entries_of};
-ghost use Rattle.paper.specs.Rules.{first_with, in_object_contexts, is_unbound_key, is_unbound, unbound_variable, same_sort, same_principal, twin_principal};
-ghost use Rattle.file_fields.specs.Fields.{field_size, place_in, value_in, field_at, between};
+ghost use Rattle.paper.specs.Listing.{context_places};
+ghost use Rattle.paper.specs.Entries.{value_at, entries_of};
+ghost use Rattle.paper.specs.Rules.{first_with, in_object_contexts, is_unbound_key, is_unbound, unbound_variable};
+ghost use Rattle.paper.specs.Rules.{same_sort, same_principal, twin_principal};
+ghost use Rattle.file_fields.specs.Fields.{field_of};
+ghost use Rattle.file_fields.specs.Stretches.{fields_of, stretch_of};
 ghost use Rattle.file_index.specs.Buckets.{hashes};
 ghost use Rattle.file_entries.specs.Keys.{key_in};
-ghost use Rattle.file_entries.specs.Weights.{byte_values, four_at, with_eight, eights, weight_of};
-ghost use Rattle.file_entries.specs.Principals.{sorts, weight_at, sort_at, principal_hash, is_other_hash, entry_in, entries_below, Hashed, AllHashed};
+ghost use Rattle.file_entries.specs.Weights.{four_at, with_eight, eights, weight_of};
+ghost use Rattle.file_entries.specs.Principals.{sorts, weight_at, sort_at, principal_hash, is_other_hash, AllHashed};
 
+use file_fields::file::{FieldAt, File};
+use file_fields::stretch::Stretch;
 use paper::limit;
 use text_keys::rows;
 
@@ -22,108 +25,76 @@ const SORTS: usize = 4;
 // Thirty-two bits of a hash are kept.
 const HASHES: usize = 4294967296;
 
-const BYTE_VALUES: usize = 256;
-
 // What sets four bytes apart from the four behind them.
 const APART: usize = 40503;
 
-// Each entry has a start, and the last an end.
-const STARTS: usize = limit::ENTRIES + 1;
-
-// Field i stands at this key of an object context.
-fn is_object_key(list: &[u32], key: usize, i: usize) -> bool
-    requires i_in_bounds { field_size * (i + 1) ≤ length list.now }
-    requires key_lt_context_places { key < context_places }
-    ensures { result ≡ any_of (eqb (place_in list.now i)) (in_object_contexts (key_in key)) }
+// What an entry says at a place: an omitted pattern is `[all]`, and anything else `all`.
+fn value_at(entry: Stretch, place: usize) -> &[u8]
+    ensures { result.now ≡ value_at place (stretch_of entry.entry) }
 {
-    let place = file_fields::place_of(list, i);
+    if file_fields::is_call_context(place) {
+        return entry.value_at(place, b"[all]", b"[]");
+    }
+    entry.value_at(place, b"all", b"[]")
+}
+
+// The field stands at this key of an object context.
+fn is_object_key(key: usize, field: FieldAt) -> bool
+    requires { key < context_places }
+    ensures { result ≡ any_of (eqb field.place) (in_object_contexts (key_in key)) }
+{
+    let place = field.place();
     (place == rows::READ_CONTEXT + key) | (place == rows::WRITE_CONTEXT + key)
 }
 
-fn holds_variable(t: &[u8], list: &[u32], i: usize) -> bool
-    requires { field_size * (i + 1) ≤ length list.now }
-    ensures { result ≡ is_variable (value_in t.now list.now i) }
+// The field of an entry has a variable at a key of an object context, and it is not the one of the entry's same key.
+fn is_unbound_key(entry: Stretch, key: usize, field: FieldAt) -> bool
+    requires { key < context_places }
+    ensures { result ≡ is_unbound_key (key_in key) (stretch_of entry.entry) (field_of entry.entry.file.text.now field) }
 {
-    text_scalars::is_variable(file_fields::value_of(t, list, i))
-}
-
-// Field i has the value that the entry has at a place.
-fn is_own(t: &[u8], list: &[u32], place: usize, i: usize, from: usize, to: usize) -> bool
-    requires i_in_bounds { field_size * (i + 1) ≤ length list.now }
-    requires to_in_bounds { field_size * to ≤ length list.now }
-    requires bytes_value { bytes "all" ≡ default_at place }
-    ensures { result ≡ same (value_in t.now list.now i) (value_at place (between t.now list.now from to)) }
-{
-    let own = file_fields::value_at(t, list, place, from, to, b"all", b"[]");
-    text_bytes::same(file_fields::value_of(t, list, i), own)
-}
-
-// Field i has a variable at a key of an object context, and it is not the one of the entry's same key.
-fn is_unbound_key(t: &[u8], list: &[u32], key: usize, i: usize, from: usize, to: usize) -> bool
-    requires i_in_bounds { field_size * (i + 1) ≤ length list.now }
-    requires to_in_bounds { field_size * to ≤ length list.now }
-    requires key_lt_context_places { key < context_places }
-    requires bytes_value { bytes "all" ≡ default_at (execution_context + key) }
-    ensures { result ≡ is_unbound_key (key_in key) (between t.now list.now from to) (field_at t.now list.now i) }
-{
-    if !is_object_key(list, key, i) {
+    if !is_object_key(key, field) {
         return false;
     }
-    if !holds_variable(t, list, i) {
+    let v = entry.file.value(field);
+    if !text_scalars::is_variable(v) {
         return false;
     }
-    !is_own(t, list, rows::EXECUTION_CONTEXT + key, i, from, to)
+    !text_bytes::same(v, value_at(entry, rows::EXECUTION_CONTEXT + key))
 }
 
 // Most fields stand at no key of an object context: they are told by their place alone.
-fn is_unbound(t: &[u8], list: &[u32], i: usize, from: usize, to: usize) -> bool
-    requires i_in_bounds { field_size * (i + 1) ≤ length list.now }
-    requires to_in_bounds { field_size * to ≤ length list.now }
-    ensures { result ≡ is_unbound (between t.now list.now from to) (field_at t.now list.now i) }
+fn is_unbound(entry: Stretch, field: FieldAt) -> bool
+    ensures { result ≡ is_unbound (stretch_of entry.entry) (field_of entry.entry.file.text.now field) }
 {
-    if file_fields::place_of(list, i) < rows::READ_CONTEXT {
+    if field.place() < rows::READ_CONTEXT {
         return false;
     }
-    is_unbound_key(t, list, rows::UID, i, from, to)
-        | is_unbound_key(t, list, rows::GID, i, from, to)
-        | is_unbound_key(t, list, rows::NAMESPACE, i, from, to)
+    is_unbound_key(entry, rows::UID, field)
+        | is_unbound_key(entry, rows::GID, field)
+        | is_unbound_key(entry, rows::NAMESPACE, field)
 }
 
 // 10 in one entry.
-fn entry_unbound_line(t: &[u8], list: &[u32], from: usize, to: usize) -> usize
-    requires { field_size * to ≤ length list.now }
-    ensures { result ≡ first_with (is_unbound (between t.now list.now from to)) (between t.now list.now from to) }
+fn entry_unbound_line(entry: Stretch) -> usize
+    ensures { result ≡ first_with (is_unbound (stretch_of entry.entry)) (stretch_of entry.entry) }
 {
-    let mut i = from;
-    while i < to {
-        if is_unbound(t, list, i, from, to) {
-            return file_fields::line_of(list, i);
+    for field in entry.fields() {
+        if is_unbound(entry, *field) {
+            return field.line();
         }
-        i += 1;
     }
     text_lines::NO_LINE
 }
 
 // 10 over the whole file: the smallest line, or none.
-pub fn unbound_line(t: &[u8], list: &[u32], n: usize) -> usize
-    requires { field_size * n ≤ length list.now }
-    ensures { result ≡ unbound_variable (between t.now list.now 0 n) }
+pub fn unbound_line(file: File) -> usize
+    ensures { result ≡ unbound_variable (fields_of file.entry) }
 {
     let mut line = text_lines::NO_LINE;
-    let mut from = file_fields::next_at(list, rows::PRINCIPAL, 0, n);
-    while from < n {
-        let to = file_fields::next_at(list, rows::PRINCIPAL, from + 1, n);
-        line = file_fields::earlier(line, entry_unbound_line(t, list, from, to));
-        from = to;
+    for entry in file.entries() {
+        line = file_fields::earlier(line, entry_unbound_line(entry));
     }
     line
-}
-
-fn byte_at(v: &[u8], i: usize) -> usize
-    requires { i < length v.now }
-    ensures { (result ≡ get_or v.now i 0) × (result < byte_values) }
-{
-    v[i] as usize
 }
 
 // Four bytes as one number, the first of them lowest: the compiler takes them in one go.
@@ -131,8 +102,7 @@ fn four_at(v: &[u8], i: usize) -> usize
     requires { i + 4 ≤ length v.now }
     ensures { (result ≡ four_at v.now i) × (result < hashes) }
 {
-    let high = byte_at(v, i + 2) + BYTE_VALUES * byte_at(v, i + 3);
-    byte_at(v, i) + BYTE_VALUES * (byte_at(v, i + 1) + BYTE_VALUES * high)
+    u32::from_le_bytes([v[i], v[i + 1], v[i + 2], v[i + 3]]) as usize
 }
 
 // The weight h, gone on over eight bytes.
@@ -150,10 +120,8 @@ fn eights(v: &[u8]) -> usize
     ensures { (result ≡ eights v.now (length v.now / 8)) × (result < hashes) }
 {
     let mut h: usize = 0;
-    let mut k: usize = 0;
-    while 8 * k + 8 <= v.len() {
+    for k in 0..v.len() / 8 {
         h = with_eight(h, v, 8 * k);
-        k += 1;
     }
     h
 }
@@ -169,172 +137,151 @@ fn weight(v: &[u8]) -> usize
     with_eight(eights(v), v, last)
 }
 
-fn weight_at<'a>(
-    t: &'a [u8],
-    list: &[u32],
-    place: usize,
-    from: usize,
-    to: usize,
-    omitted: &'a [u8],
-) -> usize
-    requires to_in_bounds { field_size * to ≤ length list.now }
-    requires omitted_value { omitted.now ≡ default_at place }
-    ensures { (result ≡ weight_at place (between t.now list.now from to)) × (result < hashes) }
+fn weight_at(entry: Stretch, place: usize) -> usize
+    ensures { (result ≡ weight_at place (stretch_of entry.entry)) × (result < hashes) }
 {
-    let v = file_fields::value_at(t, list, place, from, to, omitted, b"[]");
-    weight(v)
+    weight(value_at(entry, place))
 }
 
-fn sort_at(t: &[u8], list: &[u32], place: usize, from: usize, to: usize) -> usize
-    requires to_in_bounds { field_size * to ≤ length list.now }
-    requires bytes_value { bytes "all" ≡ default_at place }
-    ensures { (result ≡ sort_at place (between t.now list.now from to)) × (result < sorts) }
+fn sort_at(entry: Stretch, place: usize) -> usize
+    ensures { (result ≡ sort_at place (stretch_of entry.entry)) × (result < sorts) }
 {
-    let v = file_fields::value_at(t, list, place, from, to, b"all", b"[]");
-    file_fields::values::sort_of(v) as usize
+    file_fields::values::sort_of(value_at(entry, place)) as usize
 }
 
 // A number that equal principals have in common.
-fn principal_hash(t: &[u8], list: &[u32], from: usize, to: usize) -> u32
-    requires { field_size * to ≤ length list.now }
-    ensures { result ≡ principal_hash (between t.now list.now from to) }
+fn principal_hash(entry: Stretch) -> u32
+    ensures { result ≡ principal_hash (stretch_of entry.entry) }
 {
-    let subject = weight_at(t, list, rows::SUBJECT, from, to, b"all");
-    let pattern = weight_at(t, list, rows::EXECUTION_CALL_CONTEXT, from, to, b"[all]");
-    let uid = sort_at(t, list, rows::EXECUTION_UID, from, to);
-    let gid = sort_at(t, list, rows::EXECUTION_GID, from, to);
-    let namespace = sort_at(t, list, rows::EXECUTION_NAMESPACE, from, to);
+    let subject = weight_at(entry, rows::SUBJECT);
+    let pattern = weight_at(entry, rows::EXECUTION_CALL_CONTEXT);
+    let uid = sort_at(entry, rows::EXECUTION_UID);
+    let gid = sort_at(entry, rows::EXECUTION_GID);
+    let namespace = sort_at(entry, rows::EXECUTION_NAMESPACE);
     let hash = SORTS * (SORTS * (SORTS * (subject + pattern) + uid) + gid) + namespace;
     (hash % HASHES) as u32
 }
 
-fn same_value<'a>(
-    t: &'a [u8],
-    list: &[u32],
-    place: usize,
-    from: usize,
-    to: usize,
-    start: usize,
-    end: usize,
-    omitted: &'a [u8],
-) -> bool
-    requires to_in_bounds { field_size * to ≤ length list.now }
-    requires end_in_bounds { field_size * end ≤ length list.now }
-    requires omitted_value { omitted.now ≡ default_at place }
-    ensures { result ≡ same (value_at place (between t.now list.now from to)) (value_at place (between t.now list.now start end)) }
+fn same_value(a: Stretch, b: Stretch, place: usize) -> bool
+    ensures { result ≡ same (value_at place (stretch_of a.entry)) (value_at place (stretch_of b.entry)) }
 {
-    let v = file_fields::value_at(t, list, place, from, to, omitted, b"[]");
-    let w = file_fields::value_at(t, list, place, start, end, omitted, b"[]");
-    text_bytes::same(v, w)
+    text_bytes::same(value_at(a, place), value_at(b, place))
 }
 
-fn same_sort(
-    t: &[u8],
-    list: &[u32],
-    place: usize,
-    from: usize,
-    to: usize,
-    start: usize,
-    end: usize,
-) -> bool
-    requires to_in_bounds { field_size * to ≤ length list.now }
-    requires end_in_bounds { field_size * end ≤ length list.now }
-    requires bytes_value { bytes "all" ≡ default_at place }
-    ensures { result ≡ same_sort (value_at place (between t.now list.now from to)) (value_at place (between t.now list.now start end)) }
+fn same_sort(a: Stretch, b: Stretch, place: usize) -> bool
+    ensures { result ≡ same_sort (value_at place (stretch_of a.entry)) (value_at place (stretch_of b.entry)) }
 {
-    sort_at(t, list, place, from, to) == sort_at(t, list, place, start, end)
+    sort_at(a, place) == sort_at(b, place)
 }
 
-// Two entries, each from a number up to another, have the same principal.
-fn same_principal(t: &[u8], list: &[u32], from: usize, to: usize, start: usize, end: usize) -> bool
-    requires to_in_bounds { field_size * to ≤ length list.now }
-    requires end_in_bounds { field_size * end ≤ length list.now }
-    ensures { result ≡ same_principal (between t.now list.now from to) (between t.now list.now start end) }
+// Two entries have the same principal.
+fn same_principal(a: Stretch, b: Stretch) -> bool
+    ensures { result ≡ same_principal (stretch_of a.entry) (stretch_of b.entry) }
 {
-    let subject = same_value(t, list, rows::SUBJECT, from, to, start, end, b"all");
-    let pattern = same_value(
-        t,
-        list,
-        rows::EXECUTION_CALL_CONTEXT,
-        from,
-        to,
-        start,
-        end,
-        b"[all]",
-    );
-    let uid = same_sort(t, list, rows::EXECUTION_UID, from, to, start, end);
-    let gid = same_sort(t, list, rows::EXECUTION_GID, from, to, start, end);
-    let namespace = same_sort(t, list, rows::EXECUTION_NAMESPACE, from, to, start, end);
+    let subject = same_value(a, b, rows::SUBJECT);
+    let pattern = same_value(a, b, rows::EXECUTION_CALL_CONTEXT);
+    let uid = same_sort(a, b, rows::EXECUTION_UID);
+    let gid = same_sort(a, b, rows::EXECUTION_GID);
+    let namespace = same_sort(a, b, rows::EXECUTION_NAMESPACE);
     subject & pattern & uid & gid & namespace
 }
 
-// Entries a and b have the same principal. Hashes are compared first since they nearly always tell.
-fn are_twins(t: &[u8], list: &[u32], starts: &[usize], hashes: &[u32], a: usize, b: usize) -> bool
-    requires a_hashed { Hashed t.now list.now starts.now hashes.now a }
-    requires b_hashed { Hashed t.now list.now starts.now hashes.now b }
-    ensures { result ≡ same_principal (entry_in t.now list.now starts.now a) (entry_in t.now list.now starts.now b) }
-{
-    if hashes[a] != hashes[b] {
-        return false;
-    }
-    let to = starts[a + 1];
-    let end = starts[b + 1];
-    same_principal(t, list, starts[a], to, starts[b], end)
+// Where an entry begins in the list of fields, and where it ends.
+#[derive(Clone, Copy)]
+struct Bounds {
+    from: usize,
+    to: usize,
 }
 
-// None of the first k hashes is that of entry k. The loop has no exit, so that it takes many at a time.
-fn is_new_hash(hashes: &[u32], k: usize) -> bool
-    requires { k < length hashes.now }
-    ensures { result ≡ up_to (is_other_hash hashes.now k) k }
-{
-    let hash = hashes[k];
-    let mut new = true;
-    let mut j: usize = 0;
-    while j < k {
-        new = new & (hashes[j] != hash);
-        j += 1;
-    }
-    new
+// The entries that were passed. Their hashes stand apart from their bounds, since many of them are compared at a time.
+#[derive(Clone, Copy)]
+struct Passed<'a> {
+    file: File<'a>,
+    bounds: &'a [Bounds],
+    hashes: &'a [u32],
+    count: usize,
+    ghost hashed: { AllHashed file.text.now file.fields.now bounds.now hashes.now count },
 }
 
-// Entry k has the principal of one before it.
-fn has_twin(t: &[u8], list: &[u32], starts: &[usize], hashes: &[u32], k: usize) -> bool
-    requires { AllHashed t.now list.now starts.now hashes.now (k + 1) }
-    ensures { result ≡ any_of (same_principal (entry_in t.now list.now starts.now k)) (entries_below t.now list.now starts.now k) }
-{
-    if is_new_hash(hashes, k) {
-        return false;
-    }
-    let mut j = k;
-    while 0 < j {
-        j -= 1;
-        if are_twins(t, list, starts, hashes, k, j) {
-            return true;
+impl<'a> Passed<'a> {
+    ghost use Rattle.file_entries.specs.Passed.{passed_entry, passed_before};
+
+    fn entry(self, k: usize) -> Stretch<'a>
+        requires { k < self.count }
+        ensures { stretch_of result ≡ passed_entry self.entry k }
+    {
+        let Bounds { from, to } = self.bounds[k];
+        Stretch {
+            file: self.file,
+            from,
+            to,
         }
     }
-    false
+
+    // Entries a and b have the same principal. Hashes are compared first since they nearly always tell.
+    fn are_twins(self, a: usize, b: usize) -> bool
+        requires a_passed { a < self.count }
+        requires b_passed { b < self.count }
+        ensures { result ≡ same_principal (passed_entry self.entry a) (passed_entry self.entry b) }
+    {
+        if self.hashes[a] != self.hashes[b] {
+            return false;
+        }
+        same_principal(self.entry(a), self.entry(b))
+    }
+
+    // None of the hashes below k is that of entry k. The loop has no exit, so that it takes many at a time.
+    fn is_new_hash(self, k: usize) -> bool
+        requires { k < self.count }
+        ensures { result ≡ up_to (is_other_hash self.entry.hashes.now k) k }
+    {
+        let hash = self.hashes[k];
+        let mut new = true;
+        for other in &self.hashes[..k] {
+            new &= *other != hash;
+        }
+        new
+    }
+
+    // Entry k has the principal of one before it.
+    fn has_twin(self, k: usize) -> bool
+        requires { k < self.count }
+        ensures { result ≡ any_of (same_principal (passed_entry self.entry k)) (passed_before self.entry k) }
+    {
+        if self.is_new_hash(k) {
+            return false;
+        }
+        for j in (0..k).rev() {
+            if self.are_twins(k, j) {
+                return true;
+            }
+        }
+        false
+    }
 }
 
 // 11 over the whole file: the later entry's line, or none.
-pub fn twin_line(t: &[u8], list: &[u32], n: usize) -> usize
-    requires n_in_bounds { field_size * n ≤ length list.now }
-    requires n_len_bound { length (entries_of (between t.now list.now 0 n)) ≤ most_entries }
-    ensures { result ≡ twin_principal (between t.now list.now 0 n) }
+pub fn twin_line(file: File) -> usize
+    requires { length (entries_of (fields_of file)) ≤ most_entries }
+    ensures { result ≡ twin_principal (fields_of file.entry) }
 {
-    let mut starts = [0usize; STARTS];
+    let mut bounds = [Bounds { from: 0, to: 0 }; limit::ENTRIES];
     let mut hashes = [0u32; limit::ENTRIES];
-    let mut k: usize = 0;
-    let mut from = file_fields::next_at(list, rows::PRINCIPAL, 0, n);
-    starts[0] = from;
-    while from < n {
-        let to = file_fields::next_at(list, rows::PRINCIPAL, from + 1, n);
-        starts[k + 1] = to;
-        hashes[k] = principal_hash(t, list, from, to);
-        if has_twin(t, list, &starts, &hashes, k) {
-            return file_fields::line_of(list, from);
+    for (k, entry) in file.entries().enumerate() {
+        bounds[k] = Bounds {
+            from: entry.from,
+            to: entry.to,
+        };
+        hashes[k] = principal_hash(entry);
+        let passed = Passed {
+            file,
+            bounds: &bounds,
+            hashes: &hashes,
+            count: k + 1,
+        };
+        if passed.has_twin(k) {
+            return entry.line();
         }
-        from = to;
-        k += 1;
     }
     text_lines::NO_LINE
 }

@@ -1,24 +1,32 @@
 -- The fields between two numbers of the list: one field at a time, stretch by stretch, and with one put behind them.
 use mathlib.Core.Path.{◌≡◌, refl, sym, ap, ◌∙◌}
 use mathlib.Core.Bool.{Bool, true, false, cond}
+use Rattle.std.proofs.Common.{length-take-le}
 use mathlib.Core.List.{List, [], ◌∷◌, ◌++◌, map, flat_map, append-nil, map-append}
-use Prim.Native.Nat.{ℕ, zero, suc, ◌+◌, ◌-◌, ◌*◌, ◌<◌, ◌≤◌}
+use Prim.Native.Nat.{ℕ, zero, suc, ◌+◌, ◌-◌, ◌<◌, ◌≤◌}
 use native.Mathlib.Nat.{zero-add}
 use native.Mathlib.Omega.{arith}
 use lib.Dec.{eqb}
-use lib.ListN.{length, get_or, take, drop, set, length-append, length-take, length-drop}
-use lib.Seq.{get_or-set_same, get_or-set_other}
+use lib.ListN.{length, get_or, set, take, length-append, length-take, length-drop}
+use lib.Seq.{get_or-set_same, get_or-set_other, get_or-take}
+use borrow.Author.Rules.{get_or_read}
 use borrow.Author.Tests.{eqb-true, eq-eqb, ne_eqb}
 use Rattle.paper.specs.Common.{bytes, is_empty, all_of, count_up}
 use Rattle.paper.specs.Page.{Field}
 use Rattle.paper.specs.Entries.{is_at, default_at, meant, value_at, up_to_next, stretches_from}
 use Rattle.laws.proofs.Counting.{counted_append, all_of_counted, flat_map_append}
-use Rattle.file_fields.specs.Fields.{field_size, place_in, line_in, start_in, end_in, value_in, field_at, between, bytes_to, with_field, next_at, count_at, value_or}
-use Rattle.file_fields.proofs.Laws.{bytes_more, room_for_line, room_for_start, room_for_end}
+use Rattle.file_fields.specs.Fields.{nowhere_at, value_of, field_of, place_in, start_in, end_in, value_in, field_at, between, bytes_to, next_at, count_at, value_or}
+use Rattle.file_fields.proofs.Laws.{bytes_more}
+use Rattle.file_fields.specs.declared.file.FieldAt.{FieldAt}
+
+-- ---- the fields as they are read
+
+pub field_read : (t : List ℕ) (list : List FieldAt) (i : ℕ) (f : FieldAt) → i < length list → f ≡ get_or list i f → field_of t f ≡ field_at t list i
+field_read t list i f l e = ap (field_of t) (get_or_read list i f l e nowhere_at)
 
 -- ---- one field at a time
 
-module _ (t list : List ℕ) where
+module _ (t : List ℕ) (list : List FieldAt) where
   -- k fields from number i on
   abbrev run : ℕ → ℕ → List Field
   run i k = map (field_at t list) (count_up i k)
@@ -83,12 +91,12 @@ module _ (t list : List ℕ) where
     names_none = ap (flat_map names) (between_none 0 0 (omega arith))
 
   place_at : (i p : ℕ) (e : Bool) → eqb (place_in list i) p ≡ e → is_at p (field_at t list i) ≡ e
-  unfolding field_at
+  unfolding field_of
   place_at i p e h = h
 
-  value_of : (i : ℕ) → (field_at t list i).value ≡ value_in t list i
-  unfolding field_at
-  value_of i = refl
+  value_at_place : (i : ℕ) → (field_at t list i).value ≡ value_in t list i
+  unfolding field_of
+  value_at_place i = refl
 
   pub value_short : (i : ℕ) → length (value_in t list i) ≤ length t
   value_short i = rw length-take (omega (arith, length-drop (start_in list i) t))
@@ -156,7 +164,7 @@ module _ (t list : List ℕ) where
           → (next_at list p (i + 1) k < i + 1 + k → value_or omitted none p (run (i + 1) k) ≡ cond (is_empty (value_in t list (next_at list p (i + 1) k))) none (value_in t list (next_at list p (i + 1) k)))
           → cond (is_at p (field_at t list i)) (cond (is_empty (field_at t list i).value) none (field_at t list i).value) (value_or omitted none p (run (i + 1) k))
           ≡ cond (is_empty (value_in t list (cond e i (next_at list p (i + 1) k)))) none (value_in t list (cond e i (next_at list p (i + 1) k)))
-      go true q l ih = rw (place_at i p true q, value_of i) refl
+      go true q l ih = rw (place_at i p true q, value_at_place i) refl
       go false q l ih = rw (place_at i p false q) (ih (omega arith))
 
   value_omitted : (omitted none : List ℕ) (p i k : ℕ) → i + k ≤ next_at list p i k → value_or omitted none p (run i k) ≡ omitted
@@ -183,7 +191,7 @@ module _ (t list : List ℕ) where
 
 -- ---- as the code goes over them
 
-module _ (t list : List ℕ) (p from to : ℕ) where
+module _ (t : List ℕ) (list : List FieldAt) (p from to : ℕ) where
   -- the number that the next field of the place has
   abbrev next : ℕ
   next = next_at list p from (to - from)
@@ -252,96 +260,82 @@ unfolding value_or value_at meant
 value_or_lem p [] = refl
 value_or_lem p (f ∷ fs) = ap (cond (is_at p f) (meant f)) (value_or_lem p fs)
 
--- ---- one field put behind the others
+-- ---- the front of a list as a list of its own
 
-module _ (list : List ℕ) (n line place start end : ℕ) (room : field_size * (n + 1) ≤ length list) where
-  -- the list with its place, with its line, with its start, and with all of it
-  abbrev put₁ : List ℕ
-  put₁ = set list (field_size * n) place
+module _ (list : List FieldAt) (n : ℕ) (h : n ≤ length list) where
+  front_long : length (take n list) ≡ n
+  front_long = length-take-le n list h
 
-  abbrev put₂ : List ℕ
-  put₂ = set put₁ (field_size * n + 1) line
+  front_same : (i : ℕ) → i < n → get_or (take n list) i nowhere_at ≡ get_or list i nowhere_at
+  front_same i l = get_or-take n list i nowhere_at l
 
-  abbrev put₃ : List ℕ
-  put₃ = set put₂ (field_size * n + 2) start
-
-  abbrev put : List ℕ
-  put = with_field list n line place start end
-
-  module _ (k v : ℕ) where
-    apart : (l : List ℕ) (j : ℕ) → (j ≡ k → ⊥) → get_or (set l k v) j 0 ≡ get_or l j 0
-    apart l j h = get_or-set_other l k j v 0 h
-
-  put_other : (j : ℕ) → j < field_size * n → get_or put j 0 ≡ get_or list j 0
-  unfolding with_field
-  put_other j h =
-      apart (field_size * n + 3) end put₃ j (λ e. omega arith)
-      ∙ apart (field_size * n + 2) start put₂ j (λ e. omega arith)
-      ∙ apart (field_size * n + 1) line put₁ j (λ e. omega arith)
-      ∙ apart (field_size * n) place list j (λ e. omega arith)
-
-  put_place : place_in put n ≡ place
-  unfolding with_field
-  put_place =
-      apart (field_size * n + 3) end put₃ (field_size * n) (λ e. omega arith)
-      ∙ apart (field_size * n + 2) start put₂ (field_size * n) (λ e. omega arith)
-      ∙ apart (field_size * n + 1) line put₁ (field_size * n) (λ e. omega arith)
-      ∙ get_or-set_same list (field_size * n) place 0 (omega arith)
-
-  put_line : line_in put n ≡ line
-  unfolding with_field
-  put_line =
-      apart (field_size * n + 3) end put₃ (field_size * n + 1) (λ e. omega arith)
-      ∙ apart (field_size * n + 2) start put₂ (field_size * n + 1) (λ e. omega arith)
-      ∙ get_or-set_same put₁ (field_size * n + 1) line 0 (room_for_line list n room (field_size * n) place)
-
-  put_start : start_in put n ≡ start
-  unfolding with_field
-  put_start =
-      apart (field_size * n + 3) end put₃ (field_size * n + 2) (λ e. omega arith)
-      ∙ get_or-set_same put₂ (field_size * n + 2) start 0 (room_for_start list n room (field_size * n) place (field_size * n + 1) line)
-
-  put_end : end_in put n ≡ end
-  unfolding with_field
-  put_end = get_or-set_same put₃ (field_size * n + 3) end 0 (room_for_end list n room (field_size * n) place (field_size * n + 1) line (field_size * n + 2) start)
-
-  -- the values before it have as many bytes as they had
-  bytes_stay : (k : ℕ) → k ≤ n → bytes_to put k ≡ bytes_to list k
+  front_bytes : (k : ℕ) → k ≤ n → bytes_to (take n list) k ≡ bytes_to list k
   unfolding bytes_to
-  bytes_stay zero h = refl
-  bytes_stay (suc k) h = rw (bytes_stay k (omega arith), put_other (field_size * k + 2) (omega arith), put_other (field_size * k + 3) (omega arith)) refl
+  front_bytes zero l = refl
+  front_bytes (suc k) l = omega (arith, front_bytes k (omega arith), ap (λ (x : FieldAt). x.end - x.start) (front_same k (omega arith)))
 
-  pub bytes_put : bytes_to put (n + 1) ≡ bytes_to list n + (end - start)
-  bytes_put = rw (bytes_more put n, bytes_stay n (omega arith), put_start, put_end) refl
+  pub bytes_front : bytes_to (take n list) (length (take n list)) ≡ bytes_to list n
+  bytes_front = rw front_long (front_bytes n (omega arith))
 
   module _ (t : List ℕ) where
-    put_field_at : field_at t put n ≡ record { line = line; place = place; start = start; value = take (end - start) (drop start t) }
-    unfolding field_at
-    put_field_at = rw (put_place, put_line, put_start, put_end) refl
+    front_run : (i k : ℕ) → i + k ≤ n → run t (take n list) i k ≡ run t list i k
+    front_run i zero l = rw (run_none t (take n list) i, run_none t list i) refl
+    front_run i (suc k) l =
+        rw (run_more t (take n list) i k, run_more t list i k, ap (field_of t) (front_same i (omega arith)), front_run (i + 1) k (omega arith)) refl
 
-    others_stay : (i : ℕ) → i < n → field_at t put i ≡ field_at t list i
-    unfolding field_at
-    others_stay i h =
-        rw (put_other (field_size * i) (omega arith), put_other (field_size * i + 1) (omega arith), put_other (field_size * i + 2) (omega arith), put_other (field_size * i + 3) (omega arith)) refl
+    pub between_front : between t (take n list) 0 (length (take n list)) ≡ between t list 0 n
+    unfolding between
+    between_front = let e : n - 0 ≡ n = omega arith in rw (front_long, e) (front_run 0 n (omega arith))
 
-    run_stays : (i k : ℕ) → i + k ≤ n → run t put i k ≡ run t list i k
-    run_stays i zero h = rw (run_none t put i, run_none t list i) refl
-    run_stays i (suc k) h = rw (run_more t put i k, run_more t list i k, others_stay i (omega arith), run_stays (i + 1) k (omega arith)) refl
+-- ---- one field put behind the others
 
-    pub between_put : between t put 0 (n + 1) ≡ between t list 0 n ++ (record { line = line; place = place; start = start; value = take (end - start) (drop start t) } ∷ [])
+module _ (list : List FieldAt) (n : ℕ) (f : FieldAt) (room : n < length list) where
+  put_there : get_or (set list n f) n nowhere_at ≡ f
+  put_there = get_or-set_same list n f nowhere_at room
+
+  put_other : (j : ℕ) → j < n → get_or (set list n f) j nowhere_at ≡ get_or list j nowhere_at
+  put_other j h = get_or-set_other list n j f nowhere_at (λ e. omega arith)
+
+  size_there : end_in (set list n f) n - start_in (set list n f) n ≡ f.end - f.start
+  size_there = ap (λ (x : FieldAt). x.end - x.start) put_there
+
+  size_stays : (j : ℕ) → j < n → end_in (set list n f) j - start_in (set list n f) j ≡ end_in list j - start_in list j
+  size_stays j h = ap (λ (x : FieldAt). x.end - x.start) (put_other j h)
+
+  -- the values before it have as many bytes as they had
+  bytes_stay : (k : ℕ) → k ≤ n → bytes_to (set list n f) k ≡ bytes_to list k
+  unfolding bytes_to
+  bytes_stay zero h = refl
+  bytes_stay (suc k) h = omega (arith, bytes_stay k (omega arith), size_stays k (omega arith))
+
+  pub bytes_put : bytes_to (set list n f) (n + 1) ≡ bytes_to list n + (f.end - f.start)
+  bytes_put = omega (arith, bytes_more (set list n f) n, bytes_stay n (omega arith), size_there)
+
+  module _ (t : List ℕ) where
+    put_field_at : field_at t (set list n f) n ≡ record { line = f.line; place = f.place; start = f.start; value = value_of t f }
+    unfolding field_of
+    put_field_at = ap (field_of t) put_there
+
+    others_stay : (i : ℕ) → i < n → field_at t (set list n f) i ≡ field_at t list i
+    others_stay i h = ap (field_of t) (put_other i h)
+
+    run_stays : (i k : ℕ) → i + k ≤ n → run t (set list n f) i k ≡ run t list i k
+    run_stays i zero h = rw (run_none t (set list n f) i, run_none t list i) refl
+    run_stays i (suc k) h = rw (run_more t (set list n f) i k, run_more t list i k, others_stay i (omega arith), run_stays (i + 1) k (omega arith)) refl
+
+    pub between_put : between t (set list n f) 0 (n + 1) ≡ between t list 0 n ++ (record { line = f.line; place = f.place; start = f.start; value = value_of t f } ∷ [])
     unfolding between
     between_put =
         let e : n + 1 - 0 ≡ n + 1 = omega arith in
-        let f : n - 0 ≡ n = omega arith in
+        let g : n - 0 ≡ n = omega arith in
         rw (
           e,
-          f,
+          g,
           counted_append 0 n 1,
-          map-append (field_at t put) (count_up 0 n) (count_up (0 + n) 1),
+          map-append (field_at t (set list n f)) (count_up 0 n) (count_up (0 + n) 1),
           run_stays 0 n (omega arith),
           zero-add,
-          run_more
-              t put n 0,
-          run_none t put (n + 1),
+          run_more t (set list n f) n 0,
+          run_none t (set list n f) (n + 1),
           put_field_at,
         ) refl

@@ -1,10 +1,14 @@
 pub mod Laws
 pub mod Between
+pub mod Chains
 pub mod Firsts
+pub mod Items
 pub mod Entries
 pub mod Listing
 pub mod Valued
 pub mod Accesses
 pub mod Walking
+pub mod Left
 pub mod Places
 pub mod Maps
+pub mod Keys

@@ -2,46 +2,62 @@
 use mathlib.Core.Path.{◌≡◌, refl, sym, ap, ◌∙◌}
 use mathlib.Core.Bool.{Bool, true, false, cond}
 use mathlib.Core.List.{List, [], ◌∷◌, ◌++◌}
-use Prim.Native.Nat.{ℕ, zero, suc, ◌+◌, ◌-◌, ◌*◌, ◌<◌, ◌≤◌}
+use Prim.Native.Nat.{ℕ, zero, suc, ◌+◌, ◌<◌, ◌≤◌}
 use native.Mathlib.Numerals.{add-one}
 use native.Mathlib.Omega.{arith}
 use lib.Dec.{ltb}
-use lib.ListN.{length}
+use lib.ListN.{length, get_or, get_or-append}
+use lib.Seq.{get_or-append_seam}
 use borrow.Author.Tests.{ne_eqb, lt-ltb, le-ltb, ltb-false}
 use Rattle.paper.specs.Listing.{principal}
 use Rattle.paper.specs.Page.{Field}
 use Rattle.paper.specs.Entries.{is_at, fields_at}
-use Rattle.file_fields.specs.Fields.{field_size, place_in, field_at, between, maps_end}
+use Rattle.file_fields.specs.Fields.{field_of, nowhere_at, place_in, field_at, between, maps_end}
 use Rattle.file_fields.proofs.Between.{between_last}
+use Rattle.file_fields.specs.declared.file.FieldAt.{FieldAt}
 
 -- ---- found from the last field on
 
-pub last_room : (list : List ℕ) (i n : ℕ) → 0 < i → i ≤ n → field_size * n ≤ length list → field_size * (i - 1 + 1) ≤ length list
-last_room list i n h l m = omega arith
-
-ends_more : (list : List ℕ) (i : ℕ) → 0 < i → maps_end list i ≡ cond (ltb (place_in list (i - 1)) principal) i (maps_end list (i - 1))
+-- the fields of a place behind are not asked of those before
+ends_front : (front behind : List FieldAt) (n : ℕ) → n ≤ length front → maps_end (front ++ behind) n ≡ maps_end front n
 unfolding maps_end
-ends_more list zero h = absurd (omega arith)
-ends_more list (suc i) h = let e : suc i - 1 ≡ i = omega arith in rw e refl
+ends_front front behind zero h = refl
+ends_front front behind (suc n) h =
+    let e : get_or (front ++ behind) n nowhere_at ≡ get_or front n nowhere_at = get_or-append front behind nowhere_at n (omega arith) in
+    ap (λ (x : FieldAt). cond (ltb x.place principal) (suc n) (maps_end (front ++ behind) n)) e
+    ∙ ap (cond (ltb (place_in front n) principal) (suc n)) (ends_front front behind n (omega arith))
 
-module _ (list : List ℕ) (i whole : ℕ) (inv : maps_end list i ≡ whole) where
-  module _ (h : 0 < i) (r : ℕ) (q : r ≡ place_in list (i - 1)) where
-    end_step : cond (ltb r principal) i (maps_end list (i - 1)) ≡ whole
-    end_step = rw q (sym (ends_more list i h) ∙ inv)
-
-    pub end_here : r < principal → i ≡ whole
-    end_here l = rw (lt-ltb r principal l) at end_step
-
-    pub end_on : principal ≤ r → maps_end list (i - 1) ≡ whole
-    end_on l = rw (le-ltb r principal l) at end_step
-
-  pub end_none : i ≤ 0 → 0 ≡ whole
+module _ (front : List FieldAt) (last : FieldAt) where
+  ends_last : maps_end (front ++ last ∷ []) (length front + 1) ≡ cond (ltb last.place principal) (length front + 1) (maps_end front (length front))
   unfolding maps_end
-  end_none h = let e : i ≡ 0 = omega arith in rw e at inv
+  ends_last =
+      let e : length front + 1 ≡ suc (length front) = omega arith in
+      let g : get_or (front ++ last ∷ []) (length front) nowhere_at ≡ last = get_or-append_seam front last [] nowhere_at in
+      rw e (ap (λ (x : FieldAt). cond (ltb x.place principal) (suc (length front)) (maps_end (front ++ last ∷ []) (length front))) g
+      ∙ ap (cond (ltb last.place principal) (suc (length front))) (ends_front front (last ∷ []) (length front) (omega arith)))
+
+  module _ (rest : List FieldAt) (split : rest ≡ front ++ last ∷ []) (size : length front + 1 ≡ length rest) (whole : ℕ) (inv : maps_end rest (length rest) ≡ whole) where
+    end_step : cond (ltb last.place principal) (length rest) (maps_end front (length front)) ≡ whole
+    end_step =
+        let e : maps_end (front ++ last ∷ []) (length front + 1) ≡ whole = ap (maps_end (front ++ last ∷ [])) size ∙ ap (λ (l : List FieldAt). maps_end l (length rest)) (sym split) ∙ inv in
+        ap (λ (n : ℕ). cond (ltb last.place principal) n (maps_end front (length front))) (sym size) ∙ sym ends_last ∙ e
+
+    pub end_here : last.place < principal → length rest ≡ whole
+    end_here l = rw (lt-ltb last.place principal l) at end_step
+
+    pub end_on : principal ≤ last.place → maps_end front (length front) ≡ whole
+    end_on l = rw (le-ltb last.place principal l) at end_step
+
+pub end_less : (m n : ℕ) → m + 1 ≡ n → m < n
+end_less m n h = omega arith
+
+pub end_none : (rest : List FieldAt) (whole : ℕ) → length rest ≡ 0 → maps_end rest (length rest) ≡ whole → 0 ≡ whole
+unfolding maps_end
+end_none rest whole h inv = rw h at inv
 
 -- ---- what it tells
 
-pub maps_within : (list : List ℕ) (n : ℕ) → maps_end list n ≤ n
+pub maps_within : (list : List FieldAt) (n : ℕ) → maps_end list n ≤ n
 unfolding maps_end
 maps_within list zero = omega arith
 maps_within list (suc n) = go (ltb (place_in list n) principal) (maps_within list n)
@@ -50,14 +66,14 @@ maps_within list (suc n) = go (ltb (place_in list n) principal) (maps_within lis
     go true h = omega arith
     go false h = omega arith
 
-pub maps_room : (list : List ℕ) (n end : ℕ) → end ≡ maps_end list n → field_size * n ≤ length list → field_size * end ≤ length list
+pub maps_room : (list : List FieldAt) (n end : ℕ) → end ≡ maps_end list n → n ≤ length list → end ≤ length list
 maps_room list n end e h = let l : end ≤ n = rw e (maps_within list n) in omega arith
 
 -- what a field behind the maps does not change is the same of the maps and of all fields
-module _ (t list : List ℕ) {A : Type 0} (told : List Field → A)
+module _ (t : List ℕ) (list : List FieldAt) {A : Type 0} (told : List Field → A)
     (blind : (fs : List Field) (f : Field) → principal ≤ f.place → told (fs ++ (f ∷ [])) ≡ told fs) where
   pub as_in_maps : (n : ℕ) → told (between t list 0 (maps_end list n)) ≡ told (between t list 0 n)
-  unfolding maps_end field_at
+  unfolding maps_end field_of
   as_in_maps zero = refl
   as_in_maps (suc n) = go (ltb (place_in list n) principal) refl (as_in_maps n)
     where
@@ -75,5 +91,5 @@ unfolding fields_at
 fields_blind place l [] f h = rw (ne_eqb f.place place (λ e. omega arith)) refl
 fields_blind place l (x ∷ xs) f h = ap (λ (r : List Field). cond (is_at place x) (x ∷ r) r) (fields_blind place l xs f h)
 
-pub fields_in_maps : (t list : List ℕ) (n end place : ℕ) → end ≡ maps_end list n → place < principal → fields_at place (between t list 0 end) ≡ fields_at place (between t list 0 n)
+pub fields_in_maps : (t : List ℕ) (list : List FieldAt) (n end place : ℕ) → end ≡ maps_end list n → place < principal → fields_at place (between t list 0 end) ≡ fields_at place (between t list 0 n)
 fields_in_maps t list n end place e l = rw e (as_in_maps t list (fields_at place) (fields_blind place l) n)

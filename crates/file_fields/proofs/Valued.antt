@@ -2,13 +2,14 @@
 use mathlib.Core.Path.{◌≡◌, refl, sym, ap, ◌∙◌}
 use mathlib.Core.Bool.{Bool, true, false, cond, not, ◌||◌, beq}
 use mathlib.Core.List.{List, [], ◌∷◌, map}
-use Prim.Native.Nat.{ℕ, zero, suc, ◌+◌, ◌-◌, ◌*◌, ◌^◌, ◌<◌, ◌≤◌}
+use Prim.Native.Nat.{ℕ, suc, ◌+◌, ◌-◌, ◌*◌, ◌^◌, ◌<◌, ◌≤◌}
 use native.Mathlib.Omega.{arith}
-use mir.Syntax.{w16, w64}
+use mir.Syntax.{w64}
 use mir.Val.{Fits}
 use lib.Dec.{eqb}
-use lib.ListN.{length, get_or, take, drop, length-map, length-take, drop_of_length-le}
-use lib.Seq.{drop-drop}
+use Rattle.std.specs.Prelude.{count_by}
+use Rattle.std.specs.List.{fold}
+use lib.ListN.{length, take, drop, length-map, length-take}
 use borrow.Author.Tests.{eqb-true, eqb-false, eq-eqb, ne_eqb, lt-ltb, le-ltb}
 use Rattle.paper.specs.Common.{is_empty, is, cut, on_piece}
 use Rattle.paper.specs.Text.{comma, space}
@@ -16,9 +17,8 @@ use Rattle.paper.specs.Scalars.{sort_number, sort_of}
 use Rattle.paper.specs.Lists.{bracketed, inside, spaced, unspaced, elements_in, elements}
 use Rattle.paper.specs.Rules.{earlier}
 use Rattle.laws.proofs.Tests.{both_left, both_right}
-use Rattle.laws.proofs.Places.{drop_more}
 use Rattle.file_fields.specs.Fields.{list_spaced}
-use Rattle.file_fields.specs.Values.{inside_of, block, commas}
+use Rattle.file_fields.specs.Values.{is_comma, inside_of}
 
 -- ---- the sort
 
@@ -42,6 +42,11 @@ module _ (v : List ℕ) (a : Bool) (p : a ≡ is "all" v) where
       says_variable m = rw (← p, h, ← q, k, ← r, m) refl
 
 -- ---- the elements
+
+-- how many commas there are
+commas : List ℕ → ℕ
+commas [] = 0
+commas (b ∷ bs) = cond (eqb b comma) 1 0 + commas bs
 
 module _ (v : List ℕ) (b : Bool) (e : b ≡ bracketed v) where
   pub inside_list : b ≡ true → take (length v - 1 - 1) (drop 1 v) ≡ inside_of v
@@ -108,57 +113,23 @@ commas_spaced last (b ∷ bs) h = go (eqb last comma) (eqb b space) (eqb b comma
     go false false true e f k ih = omega arith
     go false false false e f k ih = omega arith
 
-module _ (s : List ℕ) (i count : ℕ) where
-  pub commas_more : (one : ℕ) (b : Bool) → i < length s → b ≡ eqb (get_or s i 0) comma → one ≡ cond b 1 0 → count + commas (drop i s) ≡ commas s → count + one + commas (drop (i + 1) s) ≡ commas s
-  unfolding commas
-  commas_more one b h e f inv =
-      let q : count + (cond (eqb (get_or s i 0) comma) 1 0 + commas (drop (i + 1) s)) ≡ commas s = rw (drop_more s i h) at inv in
-      rw (f, e) (omega (arith, q))
-
-  pub commas_done : length s ≤ i → count + commas (drop i s) ≡ commas s → count ≡ commas s
-  unfolding commas
-  commas_done h inv = let q : count + 0 ≡ commas s = rw (drop_of_length-le s h) at inv in omega (arith, q)
-
-pub one_if_little : (b : Bool) (one : ℕ) → one ≡ cond b 1 0 → one ≤ 1
-one_if_little true one e = omega arith
-one_if_little false one e = omega arith
-
-module _ (i count one n : ℕ) (b : Bool) (e : one ≡ cond b 1 0) (low : count ≤ i) where
-  pub count_keeps_low : count + one ≤ i + 1
-  count_keeps_low = omega (arith, one_if_little b one e)
-
-  pub commas_fit : n ≤ block → i < n → Fits w16 (count + one)
-  commas_fit l h = omega (arith, one_if_little b one e)
-
--- ---- block by block
+one_little : (b : Bool) → cond b 1 0 ≤ 1
+one_little true = omega arith
+one_little false = omega arith
 
 few_commas : (s : List ℕ) → commas s ≤ length s
 unfolding commas
 few_commas [] = omega arith
-few_commas (b ∷ bs) = omega (arith, few_commas bs, one_if_little (eqb b comma) (cond (eqb b comma) 1 0) refl)
+few_commas (b ∷ bs) = omega (arith, few_commas bs, one_little (eqb b comma))
 
-commas_split : (n : ℕ) (s : List ℕ) → commas (take n s) + commas (drop n s) ≡ commas s
+-- as a chain counts them
+counted_from : (n : ℕ) (s : List ℕ) → fold (λ a b. a + cond (is_comma b) 1 0) n s ≡ n + commas s
 unfolding commas
-commas_split zero s = omega arith
-commas_split (suc n) [] = refl
-commas_split (suc n) (b ∷ bs) = omega (arith, commas_split n bs)
+counted_from n [] = omega arith
+counted_from n (b ∷ bs) = counted_from (n + cond (is_comma b) 1 0) bs ∙ omega arith
 
-module _ (s : List ℕ) (at count : ℕ) (inv : count + commas (drop at s) ≡ commas s) where
-  pub commas_low : count ≤ length s
-  commas_low = omega (arith, inv, few_commas s)
-
-  pub block_short : (p : List ℕ) → p ≡ take (at + block - at) (drop at s) → length p ≤ block
-  block_short p e = rw (e, length-take) (omega arith)
-
-  module _ (p : List ℕ) (e : p ≡ take (at + block - at) (drop at s)) (k : ℕ) (q : k ≡ commas p) where
-    pub blocks_on : count + k + commas (drop (at + block) s) ≡ commas s
-    blocks_on =
-        let w : at + block - at ≡ block = omega arith in
-        let f : k ≡ commas (take block (drop at s)) = q ∙ rw (e, w) refl in
-        rw f (omega (arith, inv, commas_split block (drop at s), ap commas (drop-drop block at s)))
-
-    pub blocks_fit_lem : length s * 1 < 2 ^ 63 → Fits w64 (count + k)
-    blocks_fit_lem l = omega (arith, blocks_on, few_commas s)
+commas_counted : (s : List ℕ) → count_by is_comma s ≡ commas s
+commas_counted s = omega (arith, counted_from 0 s)
 
 module _ (v s : List ℕ) (e : s ≡ inside_of v) where
   elements_counted : length (elements v) ≡ cond (is_empty s) 0 (commas s + 1)
@@ -185,14 +156,15 @@ module _ (v s : List ℕ) (e : s ≡ inside_of v) where
   pub no_elements : length s ≡ 0 → 0 ≡ length (elements v)
   no_elements h = sym (elements_counted ∙ rw (eq-eqb (length s) 0 h) refl)
 
-  pub some_elements : (n : ℕ) → (length s ≡ 0 → ⊥) → n ≡ commas s → n + 1 ≡ length (elements v)
-  some_elements n h q = sym (elements_counted ∙ rw (ne_eqb (length s) 0 h, q) refl)
+  pub some_elements : (n : ℕ) → (length s ≡ 0 → ⊥) → n ≡ count_by is_comma s → n + 1 ≡ length (elements v)
+  some_elements n h q = sym (elements_counted ∙ rw (ne_eqb (length s) 0 h, q, commas_counted s) refl)
 
-  pub few_elements : (n : ℕ) → n ≤ length s → n + 1 ≤ length v + 1
-  few_elements n h = let q : length s ≤ length v = rw e (inside_short v) in omega arith
+  module _ (n : ℕ) (c : n ≡ count_by is_comma s) where
+    pub few_elements : n + 1 ≤ length v + 1
+    few_elements = let q : length s ≤ length v = rw e (inside_short v) in omega (arith, c, commas_counted s, few_commas s)
 
-  pub elements_fit : (n : ℕ) → n ≤ length s → length v * 1 < 2 ^ 63 → Fits w64 (n + 1)
-  elements_fit n h l = let q : length s ≤ length v = rw e (inside_short v) in omega arith
+    pub elements_fit : length v * 1 < 2 ^ 63 → Fits w64 (n + 1)
+    elements_fit l = omega (arith, few_elements)
 
 -- an element takes two bytes: no less stands between two commas, and the brackets are two
 pub elements_short : (v : List ℕ) → list_spaced v ≡ true → 2 * length (elements v) ≤ length v

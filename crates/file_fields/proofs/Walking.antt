@@ -4,27 +4,29 @@ use mathlib.Core.Logic.{⊎_elim}
 use mathlib.Core.List.{List, [], ◌∷◌}
 use Prim.Native.Nat.{ℕ, zero, suc, ◌+◌, ◌-◌, ◌<◌, ◌≤◌}
 use native.Mathlib.Omega.{arith}
+use lib.ListN.{length}
 use borrow.Author.Tests.{eq-eqb}
 use Rattle.paper.specs.Entries.{stretches_from}
 use Rattle.laws.proofs.Tests.{le_or_lt}
 use Rattle.file_fields.specs.Fields.{place_in, between, next_at}
 use Rattle.file_fields.proofs.Between.{between_none, next_from, next_within, next_at_place, stretches_next, stretch_more}
+use Rattle.file_fields.specs.declared.file.FieldAt.{FieldAt}
 
 -- number i is that of a field of the place, or the end
-pub record Walked (list : List ℕ) (p i to : ℕ) : Type 0 where
+pub record Walked (list : List FieldAt) (p i to : ℕ) : Type 0 where
   pub within : i ≤ to
   pub stands : next_at list p i (to - i) ≡ i
 
-next_itself : (list : List ℕ) (p i k : ℕ) → place_in list i ≡ p → next_at list p i k ≡ i
+next_itself : (list : List FieldAt) (p i k : ℕ) → place_in list i ≡ p → next_at list p i k ≡ i
 unfolding next_at
 next_itself list p i zero h = refl
 next_itself list p i (suc k) h = rw (eq-eqb (place_in list i) p h) refl
 
-next_nothing : (list : List ℕ) (p i to : ℕ) → to ≤ i → next_at list p i (to - i) ≡ i
+next_nothing : (list : List FieldAt) (p i to : ℕ) → to ≤ i → next_at list p i (to - i) ≡ i
 unfolding next_at
 next_nothing list p i to h = let e : to - i ≡ 0 = omega arith in rw e refl
 
-module _ (list : List ℕ) (p from to next : ℕ) where
+module _ (list : List FieldAt) (p from to next : ℕ) where
   -- the walk stands at a field of the place, or at the end
   pub walk_stands : next ≡ next_at list p from (to - from) → next_at list p next (to - next) ≡ next
   walk_stands e =
@@ -40,7 +42,7 @@ module _ (list : List ℕ) (p from to next : ℕ) where
   pub stretches_first : (t : List ℕ) → from ≤ to → next ≡ next_at list p from (to - from) → stretches_from p (between t list from to) ≡ stretches_from p (between t list next to)
   stretches_first t h e = rw e (stretches_next t list p from to h)
 
-module _ (list : List ℕ) (p i to : ℕ) where
+module _ (list : List FieldAt) (p i to : ℕ) where
   pub walked_place : Walked list p i to → i < to → place_in list i ≡ p
   walked_place w h = let s : next_at list p i (to - i) ≡ i = w.stands in rw s at (next_at_place [] list p i to (rw s h))
 
@@ -53,6 +55,12 @@ module _ (list : List ℕ) (p i to : ℕ) where
 
     pub walk_within : i < to → j ≤ to
     walk_within h = rw e (next_within [] list p (i + 1) to (omega arith))
+
+    pub walk_to_end : i ≤ to → (i ≡ to → ⊥) → j ≤ to
+    walk_to_end h n = walk_within (omega (arith, n))
+
+    pub walk_listed : i ≤ to → (i ≡ to → ⊥) → to ≤ length list → j ≤ length list
+    walk_listed h n l = omega (arith, walk_to_end h n)
 
     -- the way gets shorter
     pub walk_less : i < to → to - j < to - i

@@ -1,9 +1,9 @@
 // What a field's value holds: `all`, the elements of a list, the sort of a uid or gid.
-ghost use Rattle.std.specs.Prelude.{◌≡◌, cond, ◌+◌, ◌≤◌, length};
+ghost use Rattle.std.specs.Prelude.{◌≡◌, ◌+◌, ◌≤◌, length, count_by};
 ghost use Rattle.paper.specs.Common.{is};
 ghost use Rattle.paper.specs.Scalars.{sort_number, sort_of};
 ghost use Rattle.paper.specs.Lists.{elements};
-ghost use Rattle.file_fields.specs.Values.{block, commas, inside_of};
+ghost use Rattle.file_fields.specs.Values.{is_comma, inside_of};
 
 use table::layout;
 use text_bytes::byte;
@@ -42,48 +42,16 @@ pub fn inside(v: &[u8]) -> &[u8]
     ensures { result.now ≡ inside_of v.now }
 {
     if text_lists::bracketed(v) {
-        let last = v.len() - 1;
-        return &v[1..last];
+        &v[1..v.len() - 1]
+    } else {
+        &[]
     }
-    &v[..0]
-}
-
-fn one_if(b: bool) -> u16
-    ensures { result ≡ cond b 1 0 }
-{
-    if b {
-        return 1;
-    }
-    0
-}
-
-// So many bytes are counted at a time.
-const BLOCK: usize = 32768;
-
-// The commas of a block: counted in sixteen bits the loop takes many bytes at a time.
-fn block_commas(s: &[u8]) -> u16
-    requires { length s.now ≤ block }
-    ensures { result ≡ commas s.now }
-{
-    let mut count: u16 = 0;
-    let mut i: usize = 0;
-    while i < s.len() {
-        count += one_if(s[i] == byte::COMMA);
-        i += 1;
-    }
-    count
 }
 
 fn comma_count(s: &[u8]) -> usize
-    ensures { (result ≡ commas s.now) × (result ≤ length s.now) }
+    ensures { result ≡ count_by is_comma s.now }
 {
-    let mut count: usize = 0;
-    let mut at: usize = 0;
-    while at < s.len() {
-        count += block_commas(text_bytes::part(s, at, at + BLOCK)) as usize;
-        at += BLOCK;
-    }
-    count
+    s.iter().filter(|b| **b == byte::COMMA).count()
 }
 
 // How many elements a list has.

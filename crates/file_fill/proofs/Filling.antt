@@ -2,8 +2,10 @@
 use mathlib.Core.Path.{◌≡◌, refl, ◌∙◌}
 use mathlib.Core.List.{List, ◌++◌}
 use Prim.Native.Nat.{ℕ, ◌<◌, ◌≤◌}
-use lib.ListN.{length, drop}
+use lib.ListN.{length, take, drop}
 use borrow.Author.Tests.{lt-ltb, le-ltb}
+use Rattle.std.specs.Prelude.{Result, Ok, Err}
+use Rattle.paper.specs.declared.Fault.{Fault}
 use Rattle.paper.specs.declared.Reading.{Reading}
 use Rattle.paper.specs.declared.Reading.TheVariants.{Accepted, Unread}
 use Rattle.paper.specs.declared.Filling.{Filling}
@@ -15,8 +17,7 @@ use Rattle.paper.specs.Filled.{filled_text}
 use Rattle.paper.specs.Promises.{text_page, reading_of, written_in, filling_of, text_filled, output_left, fill_answer, fill_leaves}
 use Rattle.file_fields.specs.Fields.{between}
 use Rattle.file_fields.specs.Listed.{found_in}
-use Rattle.file_fields.specs.declared.Found.{Found}
-use Rattle.file_fields.specs.declared.Found.TheVariants.{Listed, Refused}
+use Rattle.file_fields.specs.declared.file.FieldAt.{FieldAt}
 use Rattle.file_read.proofs.Finding.{file_refused, file_held, rules_fault, rules_hold}
 
 -- ---- the size
@@ -56,22 +57,22 @@ module _ (fs : List Field) (r : Reading) (e : r ≡ reading_of (ruled fs)) where
 
 -- ---- the page
 
-module _ (t list : List ℕ) (f : Found) (e : found_in t list f ≡ text_page t) where
-  module _ (k m : ℕ) (q : f ≡ Refused k m) where
-    pub page_refuses : (out : List ℕ) → Unfilled k m ≡ fill_answer t out
+module _ (t : List ℕ) (list : List FieldAt) (r : Result ℕ Fault) (e : found_in t list r ≡ text_page t) where
+  module _ (f : Fault) (q : r ≡ Err f) where
+    pub page_refuses : (out : List ℕ) → Unfilled f.number f.line ≡ fill_answer t out
     unfolding fill_answer
-    page_refuses out = rw (file_refused t list f e k m q) refl
+    page_refuses out = rw (file_refused t list r e f q) refl
 
     pub page_untouched : (out : List ℕ) → out ≡ fill_leaves t out
     unfolding fill_leaves
     page_untouched out = rw (← page_refuses out) refl
 
-  module _ (n : ℕ) (q : f ≡ Listed n) where
-    pub page_answers : (out : List ℕ) (a : Filling) → a ≡ filling_of (length out) (ruled (between t list 0 n)) → a ≡ fill_answer t out
+  module _ (n : ℕ) (q : r ≡ Ok n) where
+    pub page_answers : (out : List ℕ) (a : Filling) → a ≡ filling_of (length out) (ruled (between t (take n list) 0 (length (take n list)))) → a ≡ fill_answer t out
     unfolding fill_answer
-    page_answers out a h = h ∙ rw (file_held t list f e n q) refl
+    page_answers out a h = h ∙ rw (file_held t list r e n q) refl
 
-    pub page_leaves : (out after : List ℕ) (a : Filling) → a ≡ filling_of (length out) (ruled (between t list 0 n))
-        → after ≡ output_left (text_filled (ruled (between t list 0 n))) out a → after ≡ fill_leaves t out
+    pub page_leaves : (out after : List ℕ) (a : Filling) → a ≡ filling_of (length out) (ruled (between t (take n list) 0 (length (take n list))))
+        → after ≡ output_left (text_filled (ruled (between t (take n list) 0 (length (take n list))))) out a → after ≡ fill_leaves t out
     unfolding fill_leaves
-    page_leaves out after a h g = g ∙ rw (← page_answers out a h, file_held t list f e n q) refl
+    page_leaves out after a h g = g ∙ rw (← page_answers out a h, file_held t list r e n q) refl

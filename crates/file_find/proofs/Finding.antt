@@ -1,48 +1,66 @@
 -- A thing is the one that is looked for, or the things behind it are searched on.
 use mathlib.Core.Path.{◌≡◌, refl, sym, ◌∙◌}
 use mathlib.Core.Bool.{Bool, true, false, cond, ◌&&◌}
-use mathlib.Core.List.{List, ◌∷◌}
-use Prim.Native.Nat.{ℕ, suc, ◌+◌, ◌-◌, ◌*◌, ◌/◌, ◌^◌, ◌<◌, ◌≤◌}
+use mathlib.Core.List.{List, [], ◌∷◌}
+use Prim.Native.Nat.{ℕ, zero, suc, ◌+◌, ◌-◌, ◌*◌, ◌/◌, ◌<◌, ◌≤◌}
 use native.Mathlib.Omega.{arith}
-use mir.Syntax.{w64}
-use mir.Val.{Fits}
+use mir.Val.{bool_byte}
 use lib.Dec.{eqb}
-use lib.ListN.{length, take, drop}
+use lib.ListN.{length, get_or, take, drop}
+use lib.Seq.{drop-drop}
+use Rattle.std.specs.Simd.{first_chunks}
+use Rattle.std.proofs.lemmas.List.{get_or-take, get_or-drop}
 use borrow.Author.Tests.{eq-eqb, ne_eqb}
 use Rattle.paper.specs.Common.{same, number_in}
-use Rattle.file_find.specs.Number.{kind_in, start_in, size_in, name_in, names_of_kind, number_of}
+use Rattle.file_find.specs.Number.{kind_in, name_in, names_of_kind, number_of}
 
 -- ---- one thing
 
-pub name_is : (t list name s : List ℕ) (i start size : ℕ) (r : Bool) → start ≡ start_in list i → size ≡ size_in list i
-    → s ≡ take (start + size - start) (drop start t) → r ≡ same s name → r ≡ same (name_in t list i) name
-name_is t list name s i start size r a b e h =
-    let q : start + size - start ≡ size = omega arith in
-    h ∙ rw (e, q, a, b) refl
+chunk_at : (k i : ℕ) (xs : List ℕ) → i < k → get_or (first_chunks 4 k xs) i [] ≡ take 4 (drop (4 * i) xs)
+chunk_at zero i xs h = absurd (omega arith)
+chunk_at (suc k) zero xs h = refl
+chunk_at (suc k) (suc i) xs h =
+    let q : 4 * suc i ≡ 4 + 4 * i = omega arith in
+    chunk_at k i (drop 4 xs) (omega arith) ∙ rw (drop-drop (4 * i) 4 xs, q) refl
 
-module _ (t list name : List ℕ) (i kind : ℕ) where
-  pub other_kind : (kind_in list i ≡ kind → ⊥) → false ≡ (eqb (kind_in list i) kind && same (name_in t list i) name)
-  other_kind h = rw (ne_eqb (kind_in list i) kind h) refl
+word_in : (m j : ℕ) (xs : List ℕ) → j < 4 → get_or (take 4 (drop m xs)) j 0 ≡ get_or xs (m + j) 0
+word_in m j xs h = get_or-take 4 (drop m xs) j 0 h ∙ get_or-drop m xs j 0
 
-  pub same_kind : kind_in list i ≡ kind → (r : Bool) → r ≡ same (name_in t list i) name → r ≡ (eqb (kind_in list i) kind && same (name_in t list i) name)
-  same_kind h r e = e ∙ rw (eq-eqb (kind_in list i) kind h) refl
+module _ (t list name : List ℕ) (i : ℕ) (h : i < length list / 4) (things : List (List ℕ)) (e : things ≡ first_chunks 4 (length list / 4) list) where
+  -- thing i, as the code has it
+  abbrev this : List ℕ
+  this = get_or things i []
 
-  pub one_is : kind_in list i ≡ kind → ◌≡◌ {A = ℕ} 1 (cond (eqb (kind_in list i) kind) 1 0)
-  one_is h = rw (eq-eqb (kind_in list i) kind h) refl
+  this_is : this ≡ take 4 (drop (4 * i) list)
+  this_is = rw e (chunk_at (length list / 4) i list h)
 
-  pub one_not : (kind_in list i ≡ kind → ⊥) → ◌≡◌ {A = ℕ} 0 (cond (eqb (kind_in list i) kind) 1 0)
-  one_not h = rw (ne_eqb (kind_in list i) kind h) refl
+  kind_is : get_or this 0 0 ≡ kind_in list i
+  kind_is = let q : 4 * i + 0 ≡ 4 * i = omega arith in rw (this_is, word_in (4 * i) 0 list (omega arith), q) refl
 
-one_little : (b : Bool) (one : ℕ) → one ≡ cond b 1 0 → one ≤ 1
+  name_is : take (get_or this 3 0) (drop (get_or this 2 0) t) ≡ name_in t list i
+  name_is = rw (this_is, word_in (4 * i) 3 list (omega arith), word_in (4 * i) 2 list (omega arith)) refl
+
+  module _ (kind : ℕ) where
+    pub other_kind : (get_or this 0 0 ≡ kind → ⊥) → false ≡ (eqb (kind_in list i) kind && same (name_in t list i) name)
+    other_kind d = rw (ne_eqb (kind_in list i) kind (λ q. d (kind_is ∙ q))) refl
+
+    pub same_kind : get_or this 0 0 ≡ kind → (r : Bool) → r ≡ same (take (get_or this 3 0) (drop (get_or this 2 0) t)) name
+        → r ≡ (eqb (kind_in list i) kind && same (name_in t list i) name)
+    same_kind k r q = q ∙ rw (name_is, eq-eqb (kind_in list i) kind (sym kind_is ∙ k)) refl
+
+    pub one_is : (one : ℕ) → one ≡ bool_byte (eqb (get_or this 0 0) kind) → one ≡ cond (eqb (kind_in list i) kind) 1 0
+    one_is one q = q ∙ rw kind_is (go (eqb (kind_in list i) kind))
+      where
+        go : (b : Bool) → bool_byte b ≡ cond b 1 0
+        go true = refl
+        go false = refl
+
+one_little : (b : Bool) (one : ℕ) → one ≡ bool_byte b → one ≤ 1
 one_little true one e = omega arith
 one_little false one e = omega arith
 
-module _ (list : List ℕ) (kind i number one : ℕ) (e : one ≡ cond (eqb (kind_in list i) kind) 1 0) (h : number ≤ i) where
-  pub number_low : number + one ≤ i + 1
-  number_low = omega (arith, one_little (eqb (kind_in list i) kind) one e)
-
-  pub number_fits : i < length list / 4 → length list * 4 < 2 ^ 63 → Fits w64 (number + one)
-  number_fits l m = omega (arith, one_little (eqb (kind_in list i) kind) one e)
+pub number_low : (kind i number one w : ℕ) → one ≡ bool_byte (eqb w kind) → number ≤ i → number + one ≤ i + 1
+number_low kind i number one w e h = omega (arith, one_little (eqb w kind) one e)
 
 -- ---- the search
 

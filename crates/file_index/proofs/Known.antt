@@ -12,9 +12,11 @@ use borrow.Author.Tests.{eq-eqb, lt-ltb, le-ltb, ltb-true}
 use Rattle.paper.specs.Common.{same, among, number_in}
 use Rattle.laws.proofs.Tests.{same_or_not, le_or_lt, same_equal, same_refl, both_true, both_false}
 use Rattle.file_index.specs.Words.{multiplier_at, heads_at, name_at, multiplier_in, link_in, hash_in, name_in}
-use Rattle.file_index.specs.Buckets.{hash_of, bucket_of, is_name, Place, Found, Free, way_end_from, way_end, Within, number_of, numbers_in}
+use Rattle.file_index.specs.Buckets.{hash_of, bucket_of, is_name, way_end_from, way_end, Within, number_of, numbers_in}
+use Rattle.file_index.specs.declared.names.Place.{Place}
+use Rattle.file_index.specs.declared.names.Place.TheVariants.{Found, Free}
 use Rattle.file_index.specs.Buckets.{word_of, inserted_at, inserted, LinkOf, Index}
-use Rattle.file_index.proofs.Names.{among_number, number_within, number_kept, number_on}
+use Rattle.file_index.proofs.Numbers.{among_number, number_within, number_kept, number_on}
 use Rattle.file_index.proofs.Links.{link_before, link_behind, link_first, link_head}
 use Rattle.file_index.proofs.Inserted.{kept_before, kept_behind, multiplier_kept, link_put, hash_put, start_put, end_put}
 use Rattle.file_index.proofs.Ways.{Ended, place_within, way_ended, passes, finds}

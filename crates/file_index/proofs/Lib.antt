@@ -1,4 +1,4 @@
-pub mod Names
+pub mod Numbers
 pub mod Steps
 pub mod Links
 pub mod Inserted

@@ -6,7 +6,8 @@ use Prim.Native.Nat.{ℕ, zero, suc, ◌+◌, ◌*◌, ◌-◌, ◌/◌, ◌%◌
 use native.Mathlib.Nat.{add_assoc, mul_comm, add-mul, mul_assoc, mul-le-mul, mod-add-mod, div-add-mod, add-mul-mod_self_left}
 use native.Mathlib.Omega.{arith}
 use lib.Dec.{ltb, leb}
-use lib.ListN.{length, get_or, take, drop, set, drop_of_length-le}
+use lib.ListN.{length, get_or, take, drop, set, length-take, length-drop, drop_of_length-le}
+use lib.Seq.{get_or-take, get_or-drop}
 use mir.Syntax.{w8, w64}
 use mir.Val.{Fits}
 use borrow.Author.Tests.{eq-eqb, ne_eqb, lt-ltb, le-ltb, lt-leb, le-leb}
@@ -16,7 +17,9 @@ use Rattle.laws.proofs.Places.{drop_more}
 use Rattle.file_index.specs.Words.{heads_at, buckets, start_at, end_at, hash_at, links_at, links, name_at}
 use Rattle.file_index.specs.Words.{start_in, end_in, hash_in, multiplier_in, link_in}
 use Rattle.file_index.specs.Buckets.{multipliers, hashes, spread, bucket_size, hash_from, hash_of, two_at, bucket_of, is_name, turn_of}
-use Rattle.file_index.specs.Buckets.{Place, Found, Free, way_end_from, way_end, place_number, Within, number_of, numbers_in, word_of, inserted_at}
+use Rattle.file_index.specs.Buckets.{way_end_from, way_end, Within, number_of, numbers_in, word_of, inserted_at}
+use Rattle.file_index.specs.declared.names.Place.{Place}
+use Rattle.file_index.specs.declared.names.Place.TheVariants.{Found, Free}
 
 -- ---- the hash
 
@@ -109,14 +112,38 @@ module _ (m : ℕ) (name : List ℕ) (h i : ℕ) (inv : hash_from m h (drop i na
       four_digits h (m % multipliers) (get_or name i 0) (get_or name (i + 1) 0) (get_or name (i + 2) 0) (get_or name (i + 3) 0) hashes in
       rw (e, last, ← digits, ← four_opened m name h i l) inv
 
-  pub fours_end : length name < i + 4 → 4 * (i / 4) ≡ i → i ≤ length name → hash_from m h (drop (length name / 4 * 4) name) ≡ hash_of m name
-  fours_end l e k =
-      let same : length name / 4 * 4 ≡ i = omega arith in
-      rw same inv
-
   pub hash_ends : length name ≤ i → h ≡ hash_of m name
   unfolding hash_from
   hash_ends l = rw (drop_of_length-le name l) at inv
+
+-- the bytes behind the last four
+module _ (m : ℕ) (name : List ℕ) (h i from : ℕ) (inv : hash_from m h (drop (from + i) name) ≡ hash_of m name) where
+  abbrev tail : List ℕ
+  tail = take (length name - from) (drop from name)
+
+  tail_long : from ≤ length name → length tail ≡ length name - from
+  tail_long l = rw (length-take, length-drop) (omega arith)
+
+  pub tail_again : from ≤ length name → i < length tail
+      → hash_from m ((h * (m % multipliers) + get_or tail i 0) % hashes) (drop (from + (i + 1)) name) ≡ hash_of m name
+  tail_again l k =
+      let here : get_or tail i 0 ≡ get_or name (from + i) 0 = get_or-take (length name - from) (drop from name) i 0 (omega (arith, k, tail_long l)) ∙ get_or-drop from name i 0 in
+      let next : from + (i + 1) ≡ from + i + 1 = omega arith in
+      rw (here, next) (hash_again m name h (from + i) inv (omega (arith, k, tail_long l)))
+
+  pub tail_ends : from ≤ length name → length tail ≤ i → h ≡ hash_of m name
+  tail_ends l k = hash_ends m name h (from + i) inv (omega (arith, k, tail_long l))
+
+pub fours_within : (n : ℕ) → n / 4 * 4 ≤ n
+fours_within n = omega arith
+
+pub fours_again : (m : ℕ) (name : List ℕ) (h k x y : ℕ) → hash_from m h (drop (4 * k) name) ≡ hash_of m name → k < length name / 4
+    → x ≡ two_at (m % multipliers) name (4 * k) → y ≡ two_at (m % multipliers) name (4 * k + 2)
+    → hash_from m ((h * (m % multipliers * (m % multipliers) % hashes * (m % multipliers * (m % multipliers) % hashes) % hashes) % hashes
+    + x * (m % multipliers * (m % multipliers) % hashes) % hashes + y) % hashes) (drop (4 * (k + 1)) name) ≡ hash_of m name
+fours_again m name h k x y inv l e f =
+    let next : 4 * (k + 1) ≡ 4 * k + 4 = omega arith in
+    rw next (four_more m name h (4 * k) inv x y (omega arith) e f)
 
 pub bucket_is : (h : ℕ) → h % hashes * spread % hashes / bucket_size ≡ bucket_of h
 unfolding bucket_of
@@ -204,59 +231,32 @@ pub within_found : (n last i : ℕ) → last < i → i ≤ n → Within n (Found
 unfolding Within
 within_found n last i l m = omega arith
 
--- the same of a place that is known to be such
-module _ (n : ℕ) (p : Place) where
-  pub free_told : (w : ℕ) → Free w ≡ p → n + w ≡ place_number n p
-  unfolding place_number
-  free_told w e = rw (← e)
-
-  pub found_told : (k : ℕ) → Found k ≡ p → k ≡ place_number n p
-  unfolding place_number
-  found_told k e = rw (← e)
-
-  pub free_within : (last w : ℕ) → Free w ≡ p → w < name_at last → last ≤ n → Within n p
-  free_within last w e l m = rw (← e) (within_free n last w l m)
-
-  pub found_within : (last i : ℕ) → Found (i - 1) ≡ p → last < i → i ≤ n → Within n p
-  found_within last i e l m = rw (← e) (within_found n last i l m)
-
--- what the number of a place tells
-module _ (n r : ℕ) where
-  is_found : (p : Place) → r ≡ place_number n p → r < n → p ≡ Found r
-  unfolding place_number
-  is_found (Found k) e l = ap Found (sym e)
-  is_found (Free w) e l = absurd (omega arith)
-
-  is_free : (p : Place) → r ≡ place_number n p → Within n p → n ≤ r → p ≡ Free (r - n)
-  unfolding place_number Within
-  is_free (Found k) e i l = absurd (omega arith)
-  is_free (Free w) e i l = ap Free (omega arith)
-
-  free_before : (p : Place) → r ≡ place_number n p → Within n p → n ≤ r → r - n < name_at n
-  unfolding Within
-  free_before p e i l = rw (is_free p e i l) at i
-
 module _ (t ix : List ℕ) (n h : ℕ) (x : List ℕ) (hashed : h ≡ hash_of (multiplier_in ix) x) where
   its_number : number_of n (way_end t ix n h x) ≡ numbers_in t ix n x
   unfolding numbers_in
   its_number = rw hashed
 
-  module _ (r : ℕ) (told : r ≡ place_number n (way_end t ix n h x)) where
-    pub number_found : r < n → r ≡ numbers_in t ix n x
+  module _ (p : Place) (told : p ≡ way_end t ix n h x) where
+    pub number_found : (k : ℕ) → p ≡ Found k → k ≡ numbers_in t ix n x
     unfolding number_of
-    number_found l = rw (is_found n r (way_end t ix n h x) told l) at its_number
+    number_found k e = rw (← told, e) at its_number
 
-    module _ (within : Within n (way_end t ix n h x)) (l : n ≤ r) where
+    module _ (w : ℕ) (e : p ≡ Free w) where
       pub number_free : n ≡ numbers_in t ix n x
       unfolding number_of
-      number_free = rw (is_free n r (way_end t ix n h x) told within l) at its_number
+      number_free = rw (← told, e) at its_number
 
-      pub word_free : word_of (way_end t ix n h x) ≡ r - n
+      pub word_free : word_of (way_end t ix n h x) ≡ w
       unfolding word_of
-      word_free = rw (is_free n r (way_end t ix n h x) told within l)
+      word_free = rw (← told, e)
 
-      pub word_before : r - n < name_at n
-      word_before = free_before n r (way_end t ix n h x) told within l
+    pub found_below : (k : ℕ) → Within n p → p ≡ Found k → k < n
+    unfolding Within
+    found_below k i e = rw e at i
+
+    pub free_before : (w : ℕ) → Within n p → p ≡ Free w → w < name_at n
+    unfolding Within
+    free_before w i e = rw e at i
 
 -- ---- a name more
 

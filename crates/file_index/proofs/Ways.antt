@@ -8,7 +8,9 @@ use native.Mathlib.Omega.{arith}
 use lib.ListN.{length, get_or}
 use Rattle.laws.proofs.Tests.{same_or_not, le_or_lt}
 use Rattle.file_index.specs.Words.{links_at, name_at, link_in}
-use Rattle.file_index.specs.Buckets.{is_name, turn_of, Place, Found, Free, way_end_from, Within, number_of, word_of, inserted_at, LinkOf}
+use Rattle.file_index.specs.Buckets.{is_name, turn_of, way_end_from, Within, number_of, word_of, inserted_at, LinkOf}
+use Rattle.file_index.specs.declared.names.Place.{Place}
+use Rattle.file_index.specs.declared.names.Place.TheVariants.{Found, Free}
 use Rattle.file_index.proofs.Steps.{way_low, way_on, within_free, within_found}
 use Rattle.file_index.proofs.Links.{link_before, link_one, link_next}
 use Rattle.file_index.proofs.Inserted.{kept_before, kept_behind, is_name_kept, link_put}

@@ -2,6 +2,8 @@
 use Rattle.std.specs.Prelude.{ℕ, zero, suc, ◌+◌, ◌*◌, ◌-◌, ◌/◌, ◌%◌, ◌^◌, ◌<◌, ◌≤◌, ◌≡◌, List, [], ◌∷◌, Bool, cond, ◌&&◌, ◌||◌, eqb, ltb, leb, length, get_or, take, drop, set}
 use Rattle.paper.specs.Common.{same, number_in}
 use Rattle.file_index.specs.Words.{heads_at, names_at, start_at, end_at, hash_at, links_at, name_at, multiplier_in, link_in, hash_in, name_in}
+use Rattle.file_index.specs.declared.names.Place.{Place}
+use Rattle.file_index.specs.declared.names.Place.TheVariants.{Found, Free}
 
 -- ---- the hash
 
@@ -52,11 +54,6 @@ is_name t ix h x k = eqb (hash_in ix k) h && same (name_in t ix k) x
 unfoldable pub turn_of : List ℕ → ℕ → ℕ
 turn_of x d = cond (leb (length x) (d / 4)) 0 (get_or x (length x - 1 - d / 4) 0 / 2 ^ (d % 4 * 2) % 4)
 
--- where a way ends: at a name, or at a word that a link can be put into
-pub data Place : Type 0 where
-  Found : ℕ → Place
-  Free : ℕ → Place
-
 -- where the way of x, whose hash is h, ends among n names, from word w and turn d on. A link goes to a name behind the last one; where the
 -- words say another, there is none.
 unfoldable pub way_end_from : List ℕ → List ℕ → ℕ → ℕ → List ℕ → ℕ → ℕ → ℕ → ℕ → Place
@@ -74,11 +71,6 @@ way_end t ix n h x = way_end_from t ix n h x n 0 0 (heads_at + bucket_of h)
 unfoldable pub Within : ℕ → Place → Type 0
 Within n (Found k) = k < n
 Within n (Free w) = w < name_at n
-
--- the place as one number: below n that of a name, from n on that of a word
-unfoldable pub place_number : ℕ → Place → ℕ
-place_number n (Found k) = k
-place_number n (Free w) = n + w
 
 -- the number of a place among n names; n where it is free
 unfoldable pub number_of : ℕ → Place → ℕ

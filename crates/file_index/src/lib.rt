@@ -4,10 +4,12 @@
 #![tactic(auto)]
 
 pub mod layout;
+pub mod maps;
+pub mod names;
 
 ghost use Rattle.std.specs.Prelude.{◌≡◌, ◌+◌, ◌*◌, ◌/◌, ◌<◌, ◌≤◌, length, drop};
-ghost use Rattle.file_index.specs.Words.{buckets, names_at, name_size, links, multiplier_in};
-ghost use Rattle.file_index.specs.Buckets.{multipliers, hashes, hash_from, hash_of, two_at, bucket_of, turn_of, is_name, way_end, place_number, Within, numbers_in, inserted_at};
+ghost use Rattle.file_index.specs.Words.{buckets, names_at, name_size, links};
+ghost use Rattle.file_index.specs.Buckets.{multipliers, hashes, hash_from, hash_of, two_at, bucket_of, turn_of, inserted_at};
 
 // The multiplier of hashes: whoever clears an index puts it into its first word.
 pub const MULTIPLIER: usize = 65599;
@@ -36,11 +38,10 @@ fn hash_fours(m: usize, name: &[u8]) -> usize
     let square = step * step % HASHES;
     let fourth = square * square % HASHES;
     let mut h: usize = 0;
-    let mut i: usize = 0;
-    while i + 4 <= name.len() {
+    for k in 0..name.len() / 4 {
+        let i = 4 * k;
         let front = h * fourth % HASHES + two_at(step, name, i) * square % HASHES;
         h = (front + two_at(step, name, i + 2)) % HASHES;
-        i += 4;
     }
     h
 }
@@ -50,37 +51,20 @@ pub fn hash(m: usize, name: &[u8]) -> usize
 {
     let step = m % MULTIPLIERS;
     let mut h = hash_fours(m, name);
-    let mut i = name.len() / 4 * 4;
-    while i < name.len() {
-        h = (h * step + (name[i] as usize)) % HASHES;
-        i += 1;
+    for b in &name[name.len() / 4 * 4..] {
+        h = (h * step + (*b as usize)) % HASHES;
     }
     h
 }
 
-fn bucket(h: usize) -> usize
+pub(crate) fn bucket(h: usize) -> usize
     ensures { (result ≡ bucket_of h) × (result < buckets) }
 {
     h % HASHES * SPREAD % HASHES / BUCKET_SIZE
 }
 
-// Name k is this one, whose hash is h. Hashes are compared first since they nearly always tell.
-fn is_name(t: &[u8], ix: &[usize], h: usize, name: &[u8], k: usize) -> bool
-    requires { names_at + name_size * (k + 1) ≤ length ix.now }
-    ensures { result ≡ is_name t.now ix.now h name.now k }
-{
-    let at = layout::NAMES_AT + layout::NAME_SIZE * k;
-    if ix[at + layout::HASH_AT] != h {
-        return false;
-    }
-    let start = ix[at + layout::START_AT];
-    let end = ix[at + layout::END_AT];
-    let stretch = text_bytes::part(t, start, end);
-    text_bytes::same(stretch, name)
-}
-
 // Turn d of the way of a name, one of four: two bits of a byte, from its last byte to its first. Behind them all turns are 0.
-fn turn(name: &[u8], d: usize) -> usize
+pub(crate) fn turn(name: &[u8], d: usize) -> usize
     ensures { (result ≡ turn_of name.now d) × (result < links) }
 {
     let back = d / 4;
@@ -88,53 +72,6 @@ fn turn(name: &[u8], d: usize) -> usize
         return 0;
     }
     ((name[name.len() - 1 - back] as usize) >> (d % 4 * 2)) % 4
-}
-
-// Where the way of a name with its hash ends among the first n, as one number: below n it is that of the name, from n on that of the word
-// that its link can be put into. Each link goes to a later name: so every way ends, whatever the words say.
-pub fn way_end(t: &[u8], ix: &[usize], n: usize, h: usize, name: &[u8]) -> usize
-    requires { names_at + name_size * n ≤ length ix.now }
-    ensures value { result ≡ place_number n (way_end t.now ix.now n h name.now) }
-    ensures within { Within n (way_end t.now ix.now n h name.now) }
-{
-    let mut w = layout::HEADS_AT + bucket(h);
-    let mut last: usize = 0;
-    let mut d: usize = 0;
-    loop {
-        let i = ix[w];
-        if i <= last {
-            return n + w;
-        }
-        if n < i {
-            return n + w;
-        }
-        let k = i - 1;
-        if is_name(t, ix, h, name, k) {
-            return k;
-        }
-        w = layout::NAMES_AT + layout::NAME_SIZE * k + layout::LINKS_AT + turn(name, d);
-        last = i;
-        d += 1;
-    }
-}
-
-// The number of a name among the first n; n where it is none of them.
-pub fn number_in(t: &[u8], ix: &[usize], n: usize, name: &[u8]) -> usize
-    requires { names_at + name_size * n ≤ length ix.now }
-    ensures { (result ≡ numbers_in t.now ix.now n name.now) × (result ≤ n) }
-{
-    let h = hash(ix[layout::MULTIPLIER_AT], name);
-    number_hashed(t, ix, n, h, name)
-}
-
-// The number of a name among the first n, its hash being known; n where it is none of them.
-pub fn number_hashed(t: &[u8], ix: &[usize], n: usize, h: usize, name: &[u8]) -> usize
-    requires n_in_bounds { names_at + name_size * n ≤ length ix.now }
-    requires h_value { h ≡ hash_of (multiplier_in ix.now) name.now }
-    ensures { (result ≡ numbers_in t.now ix.now n name.now) × (result ≤ n) }
-{
-    let place = way_end(t, ix, n, h, name);
-    if place < n { place } else { n }
 }
 
 // Name n goes in, its link into word w. Its own links are 0 already: behind the names an index has no other words.

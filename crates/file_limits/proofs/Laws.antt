@@ -1,14 +1,13 @@
 -- Counts against their limits: what was counted and what is left pass the limit where all of it does.
 use mathlib.Core.Path.{◌≡◌, refl, ◌∙◌}
 use mathlib.Core.Bool.{Bool, true, false, cond}
-use mathlib.Core.Logic.{◌⊎◌, inl, inr}
 use mathlib.Core.List.{List, [], ◌∷◌, ◌++◌}
 use Prim.Native.Nat.{ℕ, ◌+◌, ◌-◌, ◌*◌, ◌^◌, ◌<◌, ◌≤◌}
 use native.Mathlib.Omega.{arith}
 use mir.Syntax.{w64}
 use mir.Val.{Fits}
 use lib.Dec.{eqb, ltb}
-use lib.ListN.{length}
+use lib.ListN.{length, get_or, take, drop, length-take, length-drop}
 use borrow.Author.Tests.{eq-eqb, ne_eqb, lt-ltb, le-ltb, ltb-false}
 use Rattle.paper.specs.Common.{any_of}
 use Rattle.paper.specs.Limits.{most_domains, most_members}
@@ -17,111 +16,109 @@ use Rattle.paper.specs.Lists.{elements}
 use Rattle.paper.specs.Page.{Field}
 use Rattle.paper.specs.Entries.{call_contexts, is_at_one, entries_of, line_of_entry}
 use Rattle.paper.specs.Rules.{earlier, earliest, first_with, passing, one_at, members_at, long_pattern, descriptors_of, descriptors_in, over_limit}
-use Rattle.file_fields.specs.Fields.{field_size, place_in, line_in, value_in, field_at, between, next_at, maps_end}
-use Rattle.file_fields.proofs.Between.{between_more, between_none, value_short}
-use Rattle.file_fields.proofs.Entries.{entries_first, entry_room, entry_line, entries_more, entries_none}
+use Rattle.file_fields.specs.Fields.{nowhere_at, stands_at, value_of, line_in, field_of, field_at, between, maps_end}
+use Rattle.file_fields.specs.declared.file.FieldAt.{FieldAt}
+use Rattle.file_fields.proofs.Between.{between_more, between_none}
+use Rattle.file_fields.proofs.Items.{item_within, item_is, items_end}
+use Rattle.file_fields.proofs.Left.{left_entries, left_more, left_none, next_entry_line}
+use Rattle.file_fields.specs.Stretches.{fields_of, stretch_of, left_of, Begins, IsNext}
+use Rattle.file_fields.specs.declared.file.File.{File}
+use Rattle.file_fields.specs.declared.stretch.Stretch.{Stretch}
+use Rattle.file_fields.specs.declared.stretch.Stretches.{Stretches}
 use Rattle.file_fields.proofs.Maps.{as_in_maps}
-use Rattle.file_limits.specs.Counts.{weighed, map_line}
-use Rattle.file_limits.specs.declared.Count.{Count}
-use Rattle.file_limits.specs.declared.Count.TheVariants.{Fields, Members}
+use Rattle.file_limits.specs.Counts.{map_line}
 
 -- ---- the weight of a field
 
-module _ (t list : List ℕ) (i place p : ℕ) (e : p ≡ place_in list i) where
-  pub weightless : (count : Count) → (p ≡ place → ⊥) → 0 ≡ weighed count place (field_at t list i)
-  unfolding field_at one_at members_at
-  weightless Fields h = rw (← e, ne_eqb p place h) refl
-  weightless Members h = rw (← e, ne_eqb p place h) refl
+module _ (f : FieldAt) (place : ℕ) (t : List ℕ) (w : ℕ) (e : w ≡ cond (stands_at place f) 1 0) where
+  pub one_weighs : w ≡ one_at place (field_of t f)
+  unfolding one_at field_of
+  one_weighs = e
 
-  module _ (h : p ≡ place) (count : Count) where
-    pub weight_one : count ≡ Fields → 1 ≡ weighed count place (field_at t list i)
-    unfolding field_at one_at
-    weight_one c = rw (c, ← e, eq-eqb p place h) refl
+module _ (t : List ℕ) (f : FieldAt) (place p : ℕ) (e : p ≡ f.place) where
+  pub no_members : (p ≡ place → ⊥) → 0 ≡ members_at place (field_of t f)
+  unfolding members_at field_of
+  no_members h = rw (← e, ne_eqb p place h) refl
 
-    module _ (v : List ℕ) (f : v ≡ value_in t list i) (n : ℕ) where
-      pub weight_members : count ≡ Members → n ≡ length (elements v) → n ≡ weighed count place (field_at t list i)
-      unfolding field_at members_at
-      weight_members c q = rw (c, ← e, eq-eqb p place h, ← f) q
+  pub all_members : p ≡ place → (v : List ℕ) → v ≡ value_of t f → (n : ℕ) → n ≡ length (elements v) → n ≡ members_at place (field_of t f)
+  unfolding members_at field_of
+  all_members h v g n q = rw (← e, eq-eqb p place h, ← g) q
 
-pub members_little : (t list v : List ℕ) (i n : ℕ) → v ≡ value_in t list i → n ≤ length v + 1 → n ≤ length t + 1
-members_little t list v i n f h = let q : length v ≤ length t = rw f (value_short t list i) in omega arith
+pub members_little : (t v : List ℕ) (f : FieldAt) (n : ℕ) → v ≡ value_of t f → n ≤ length v + 1 → n ≤ length t + 1
+members_little t v f n e h = let q : length v ≤ length t = rw (e, length-take) (omega (arith, length-drop f.start t)) in omega arith
 
 -- ---- counted field by field
 
-module _ (t list : List ℕ) (count : Count) (place most n i sum w : ℕ) (h : i < n) (e : w ≡ weighed count place (field_at t list i)) where
+module _ (t : List ℕ) (list items : List FieldAt) (from to : ℕ) (cut : items ≡ take (to - from) (drop from list)) (ordered : from ≤ to) (listed : to ≤ length list)
+    (weigh : Field → ℕ) (most i sum : ℕ) where
   -- the line of what is left
   abbrev left : ℕ → ℕ → ℕ
-  left k j = passing (λ f. f.line) (weighed count place) most k (between t list j n)
+  left k j = passing (λ f. f.line) weigh most k (between t list (from + j) to)
 
   module _ (whole : ℕ) (inv : left sum i ≡ whole) where
-    step : cond (ltb most (sum + w)) (line_in list i) (left (sum + w) (i + 1)) ≡ whole
-    unfolding passing field_at
-    step = rw (between_more t list i n h, ← e) at inv
+    module _ (h : i < length items) (w : ℕ) (e : w ≡ weigh (field_of t (get_or items i nowhere_at))) where
+      at_step : cond (ltb most (sum + weigh (field_at t list (from + i)))) (line_in list (from + i)) (left (sum + weigh (field_at t list (from + i))) (i + 1)) ≡ whole
+      unfolding passing field_of
+      at_step =
+          let on : from + i + 1 ≡ from + (i + 1) = omega arith in
+          rw on at (rw (between_more t list (from + i) to (item_within list items from to cut ordered listed i h)) at inv)
 
-    pub passes_here : (line : ℕ) → most < sum + w → line ≡ line_in list i → line ≡ whole
-    passes_here line l q = q ∙ (rw (lt-ltb most (sum + w) l) at step)
+      step : cond (ltb most (sum + w)) (get_or items i nowhere_at).line (left (sum + w) (i + 1)) ≡ whole
+      unfolding field_of
+      step = rw (e, item_is list items from to cut ordered listed i h) at_step
 
-    pub passes_not : sum + w ≤ most → left (sum + w) (i + 1) ≡ whole
-    passes_not l = rw (le-ltb most (sum + w) l) at step
+      pub passes_here : (line : ℕ) → most < sum + w → line ≡ (get_or items i nowhere_at).line → line ≡ whole
+      passes_here line l q = q ∙ (rw (lt-ltb most (sum + w) l) at step)
 
-pub passes_nowhere : (t list : List ℕ) (count : Count) (place most n i sum whole : ℕ) → n ≤ i → passing (λ f. f.line) (weighed count place) most sum (between t list i n) ≡ whole → 0 ≡ whole
-unfolding passing
-passes_nowhere t list count place most n i sum whole h inv = rw (between_none t list i n h) at inv
+      pub passes_not : sum + w ≤ most → left (sum + w) (i + 1) ≡ whole
+      passes_not l = rw (le-ltb most (sum + w) l) at step
+
+    pub passes_nowhere : length items ≤ i → 0 ≡ whole
+    unfolding passing
+    passes_nowhere h = rw (between_none t list (from + i) to (items_end list items from to cut ordered listed i h)) at inv
 
 pub sum_fits : (t : List ℕ) (sum w most : ℕ) → sum ≤ most → most ≤ 1024 → w ≤ length t + 1 → length t * 1 < 2 ^ 63 → Fits w64 (sum + w)
 sum_fits t sum w most a b d l = omega arith
 
 -- ---- long patterns
 
-module _ (t list : List ℕ) (i p : ℕ) (e : p ≡ place_in list i) (b : Bool) (q : b ≡ any_of (eqb p) call_contexts) where
-  pub no_pattern : b ≡ false → false ≡ long_pattern (field_at t list i)
-  unfolding long_pattern is_at_one field_at
+module _ (t : List ℕ) (f : FieldAt) (p : ℕ) (e : p ≡ f.place) (b : Bool) (q : b ≡ any_of (eqb p) call_contexts) where
+  pub no_pattern : b ≡ false → b ≡ long_pattern (field_of t f)
+  unfolding long_pattern is_at_one field_of
   no_pattern h = rw (← e, ← q, h) refl
 
-  pub pattern_long : (v : List ℕ) (n : ℕ) → b ≡ true → v ≡ value_in t list i → n ≡ length (elements v) → ltb 16 n ≡ long_pattern (field_at t list i)
-  unfolding long_pattern is_at_one field_at
-  pattern_long v n h f g = rw (← e, ← q, h, ← f, g) refl
+  pub pattern_long : (v : List ℕ) (n : ℕ) → b ≡ true → v ≡ value_of t f → n ≡ length (elements v) → ltb 16 n ≡ long_pattern (field_of t f)
+  unfolding long_pattern is_at_one field_of
+  pattern_long v n h g l = rw (← e, ← q, h, ← g, l) refl
 
 -- ---- access descriptors
-
-pub read_access : (can_read ≡ can_read) ⊎ (can_read ≡ can_write)
-read_access = inl refl
-
-pub write_access : (can_write ≡ can_read) ⊎ (can_write ≡ can_write)
-write_access = inr refl
 
 pub both_accesses : (fs : List Field) (a b : ℕ) → a ≡ descriptors_of can_read fs → b ≡ descriptors_of can_write fs → a + b ≡ descriptors_in fs
 unfolding descriptors_in
 both_accesses fs a b p q = rw (p, q) refl
 
-module _ (t list : List ℕ) (n whole : ℕ) where
-  -- the line of what is left
-  abbrev entries_left : ℕ → ℕ → ℕ
-  entries_left k from = passing line_of_entry descriptors_in 256 k (entries_of (between t list from n))
-
-  pub entries_start : (from : ℕ) → from ≡ next_at list principal 0 (n - 0) → entries_left 0 0 ≡ whole → entries_left 0 from ≡ whole
-  entries_start from e inv = rw (entries_first list 0 n from e t (omega arith)) inv
-
-  module _ (from sum : ℕ) (inv : entries_left sum from ≡ whole) where
-    module _ (h : from < n) (s : next_at list principal from (n - from) ≡ from) (to : ℕ) (q : to ≡ next_at list principal (from + 1) (n - (from + 1)))
-        (w : ℕ) (e : w ≡ descriptors_in (between t list from to)) where
-      entry_step : cond (ltb 256 (sum + w)) (line_in list from) (entries_left (sum + w) to) ≡ whole
-      unfolding passing
-      entry_step = rw (entries_more list from n to h q t s, ← e, entry_line list from n to h q t) at inv
-
-      pub descriptors_pass : (line : ℕ) → 256 < sum + w → line ≡ line_in list from → line ≡ whole
-      descriptors_pass line l f = f ∙ (rw (lt-ltb 256 (sum + w) l) at entry_step)
-
-      pub descriptors_on : sum + w ≤ 256 → entries_left (sum + w) to ≡ whole
-      descriptors_on l = rw (le-ltb 256 (sum + w) l) at entry_step
-
-    pub no_entries : n ≤ from → 0 ≡ whole
+module _ (s : Stretches) (sum whole : ℕ) (inv : passing line_of_entry descriptors_in 256 sum (left_of s) ≡ whole) where
+  module _ (x : Stretch) (r : Stretches) (n : IsNext s x r) (w : ℕ) (e : w ≡ descriptors_in (stretch_of x)) where
+    entry_step : cond (ltb 256 (sum + w)) (line_in x.file.fields.now x.from) (passing line_of_entry descriptors_in 256 (sum + w) (left_of r)) ≡ whole
     unfolding passing
-    no_entries h = rw (entries_none t list from n h) at inv
+    entry_step = rw (left_more s x r n, ← e, next_entry_line s x r n) at inv
 
-pub descriptors_fit_lem : (list : List ℕ) (from n to sum w : ℕ) → from < n → to ≡ next_at list principal (from + 1) (n - (from + 1))
-    → sum ≤ 256 → w ≤ 2 * (1 + to) → field_size * n ≤ length list → length list * 4 < 2 ^ 63 → Fits w64 (sum + w)
-descriptors_fit_lem list from n to sum w h q a b d l = omega (arith, entry_room list from n to h q d)
+    pub descriptors_pass : (line : ℕ) → 256 < sum + w → line ≡ line_in x.file.fields.now x.from → line ≡ whole
+    descriptors_pass line l f = f ∙ (rw (lt-ltb 256 (sum + w) l) at entry_step)
+
+    pub descriptors_on : sum + w ≤ 256 → passing line_of_entry descriptors_in 256 (sum + w) (left_of r) ≡ whole
+    descriptors_on l = rw (le-ltb 256 (sum + w) l) at entry_step
+
+  pub no_entries : s.rest.from ≡ s.rest.to → 0 ≡ whole
+  unfolding passing
+  no_entries h = rw (left_none s h) at inv
+
+pub entries_start : (file : File) (s : Stretches) → Begins file principal 0 (length file.fields.now) s
+    → passing line_of_entry descriptors_in 256 0 (left_of s) ≡ passing line_of_entry descriptors_in 256 0 (entries_of (fields_of file))
+entries_start file s b = rw (left_entries file s b) refl
+
+pub descriptors_fit_lem : (list : List FieldAt) (to sum w : ℕ) → sum ≤ 256 → w ≤ 2 * (1 + to) → to ≤ length list → length list * 16 < 2 ^ 63 → Fits w64 (sum + w)
+descriptors_fit_lem list to sum w q b d l = omega arith
 
 -- ---- all of them
 
@@ -158,19 +155,19 @@ maps_blind after fs f h =
     refl
 
 maps_put : (fs : List Field) (a b d e after w x y z : ℕ)
-    → a ≡ passing (λ f. f.line) (weighed Fields 2) 128 0 fs
-    → b ≡ passing (λ f. f.line) (weighed Fields 5) 128 0 fs
-    → d ≡ passing (λ f. f.line) (weighed Members 3) 1024 0 fs
-    → e ≡ passing (λ f. f.line) (weighed Members 6) 1024 0 fs
+    → a ≡ passing (λ f. f.line) (one_at object_name) 128 0 fs
+    → b ≡ passing (λ f. f.line) (one_at subject_name) 128 0 fs
+    → d ≡ passing (λ f. f.line) (members_at object_members) 1024 0 fs
+    → e ≡ passing (λ f. f.line) (members_at subject_members) 1024 0 fs
     → w ≡ earlier e after → x ≡ earlier d w → y ≡ earlier b x → z ≡ earlier a y → z ≡ map_line fs after
 unfolding map_line
 maps_put fs a b d e after w x y z p q r s k l m n = n ∙ rw (m, l, k, p, q, r, s) refl
 
-pub map_line_lem : (t list : List ℕ) (n end : ℕ) → end ≡ maps_end list n → (a b d e after w x y z : ℕ)
-    → a ≡ passing (λ f. f.line) (weighed Fields 2) 128 0 (between t list 0 end)
-    → b ≡ passing (λ f. f.line) (weighed Fields 5) 128 0 (between t list 0 end)
-    → d ≡ passing (λ f. f.line) (weighed Members 3) 1024 0 (between t list 0 end)
-    → e ≡ passing (λ f. f.line) (weighed Members 6) 1024 0 (between t list 0 end)
+pub map_line_lem : (t : List ℕ) (list : List FieldAt) (n end : ℕ) → end ≡ maps_end list n → (a b d e after w x y z : ℕ)
+    → a ≡ passing (λ f. f.line) (one_at object_name) 128 0 (between t list 0 end)
+    → b ≡ passing (λ f. f.line) (one_at subject_name) 128 0 (between t list 0 end)
+    → d ≡ passing (λ f. f.line) (members_at object_members) 1024 0 (between t list 0 end)
+    → e ≡ passing (λ f. f.line) (members_at subject_members) 1024 0 (between t list 0 end)
     → w ≡ earlier e after → x ≡ earlier d w → y ≡ earlier b x → z ≡ earlier a y → z ≡ map_line (between t list 0 n) after
 map_line_lem t list n end i a b d e after w x y z p q r s k l m o =
     maps_put (between t list 0 end) a b d e after w x y z p q r s k l m o
@@ -178,7 +175,7 @@ map_line_lem t list n end i a b d e after w x y z p q r s k l m o =
 
 module _ (fs : List Field) where
   pub all_lines : (a b d w x y z : ℕ)
-      → a ≡ passing (λ f. f.line) (weighed Fields 8) 128 0 fs
+      → a ≡ passing (λ f. f.line) (one_at principal) 128 0 fs
       → b ≡ first_with long_pattern fs
       → d ≡ passing line_of_entry descriptors_in 256 0 (entries_of fs)
       → w ≡ earlier d 0 → x ≡ earlier b w → y ≡ earlier a x → z ≡ map_line fs y → z ≡ over_limit fs

@@ -1,149 +1,126 @@
 // 6: a count over its limit, at the line that passes it.
 #![tactic(auto)]
 
-ghost use Rattle.std.specs.Prelude.{◌≡◌, ◌+◌, ◌*◌, ◌≤◌, length};
+ghost use Rattle.std.specs.Prelude.{◌≡◌, ℕ, ◌+◌, ◌*◌, ◌≤◌, cond, length};
 ghost use Rattle.paper.specs.Limits.{most_members, most_descriptors};
+ghost use Rattle.paper.specs.Page.{Field};
 ghost use Rattle.paper.specs.Entries.{entries_of, line_of_entry};
-ghost use Rattle.paper.specs.Rules.{first_with, passing, long_pattern, descriptors_in, over_limit};
-ghost use Rattle.file_fields.specs.Fields.{field_size, field_at, between};
-ghost use Rattle.file_limits.specs.Counts.{weighed, map_line};
+ghost use Rattle.paper.specs.Rules.{first_with, passing, one_at, members_at, long_pattern, descriptors_in, over_limit};
+ghost use Rattle.file_fields.specs.Fields.{stands_at, field_of};
+ghost use Rattle.file_fields.specs.Stretches.{fields_of, stretch_of};
+ghost use Rattle.file_limits.specs.Counts.{Few, Weighs, map_line};
 
+use file_fields::file::{FieldAt, File};
+use file_fields::stretch::Stretch;
 use file_fields::values::element_count;
-use file_fields::{
-    descriptors_of, earlier, is_call_context, line_of, maps_end, next_at, place_of, value_of,
-};
+use file_fields::{earlier, is_call_context};
 use paper::limit;
 use text_keys::rows;
 use text_lines::NO_LINE;
 
-// What is counted at a place: its fields, or the elements of its lists.
-#[derive(Clone, Copy)]
-pub enum Count {
-    Fields,
-    Members,
+fn one_at(field: FieldAt, place: usize) -> usize
+    ensures { result ≡ cond (stands_at place field) 1 0 }
+{
+    if field.place() == place { 1 } else { 0 }
 }
 
-fn weight(t: &[u8], list: &[u32], i: usize, count: Count, place: usize) -> usize
-    requires { field_size * (i + 1) ≤ length list.now }
-    ensures { (result ≡ weighed count place (field_at t.now list.now i)) × (result ≤ length t.now + 1) }
+// The elements of the list, where the field stands at the place.
+fn members_at(file: File, field: FieldAt, place: usize) -> usize
+    ensures value { result ≡ members_at place (field_of file.entry.text.now field) }
+    ensures upper_bound { result ≤ length file.entry.text.now + 1 }
 {
-    if place_of(list, i) != place {
+    if field.place() != place {
         return 0;
     }
-    match count {
-        Count::Fields => 1,
-        Count::Members => element_count(value_of(t, list, i)),
-    }
+    element_count(file.value(field))
 }
 
-// The line of the field with which the count passes the limit.
-fn passing_line(t: &[u8], list: &[u32], n: usize, count: Count, place: usize, most: usize) -> usize
-    requires n_in_bounds { field_size * n ≤ length list.now }
+// The line of the field with which the weights of the fields pass the limit.
+fn passing_line<W: Fn(FieldAt) -> usize>(fields: Stretch, weight: W, most: usize) -> usize
+    requires callable { W.IsAlwaysCallable weight }
+    requires few { Few fields.file.text.now (W.post weight) }
     requires most_le_most_members { most ≤ most_members }
-    ensures { result ≡ passing (λ f. f.line) (weighed count place) most 0 (between t.now list.now 0 n) }
+    ensures { (weigh : Field → ℕ) → Weighs fields.entry.file.text.now (W.post weight) weigh
+        → result ≡ passing (λ f. f.line) weigh most 0 (stretch_of fields.entry) }
 {
     let mut sum: usize = 0;
-    let mut i: usize = 0;
-    while i < n {
-        sum += weight(t, list, i, count, place);
+    for field in fields.fields() {
+        sum += weight(*field);
         if most < sum {
-            return line_of(list, i);
+            return field.line();
         }
-        i += 1;
     }
     NO_LINE
 }
 
-fn is_long(t: &[u8], list: &[u32], i: usize) -> bool
-    requires { field_size * (i + 1) ≤ length list.now }
-    ensures { result ≡ long_pattern (field_at t.now list.now i) }
+// The line of the field with which there are too many at a place.
+fn count_line(fields: Stretch, place: usize, most: usize) -> usize
+    requires { most ≤ most_members }
+    ensures { result ≡ passing (λ f. f.line) (one_at place) most 0 (stretch_of fields.entry) }
 {
-    if is_call_context(place_of(list, i)) {
-        return limit::ELEMENTS < element_count(value_of(t, list, i));
-    }
-    false
+    passing_line(fields, |field| one_at(field, place), most)
+}
+
+// The line of the field with which the lists at a place have too many elements.
+fn members_line(fields: Stretch, place: usize) -> usize
+    ensures { result ≡ passing (λ f. f.line) (members_at place) most_members 0 (stretch_of fields.entry) }
+{
+    passing_line(
+        fields,
+        |field| members_at(fields.file, field, place),
+        limit::MEMBERS,
+    )
+}
+
+fn is_long(file: File, field: FieldAt) -> bool
+    ensures { result ≡ long_pattern (field_of file.entry.text.now field) }
+{
+    is_call_context(field.place()) && limit::ELEMENTS < element_count(file.value(field))
 }
 
 // The line of the first pattern that is too long.
-fn long_line(t: &[u8], list: &[u32], n: usize) -> usize
-    requires { field_size * n ≤ length list.now }
-    ensures { result ≡ first_with long_pattern (between t.now list.now 0 n) }
+fn long_line(file: File) -> usize
+    ensures { result ≡ first_with long_pattern (fields_of file.entry) }
 {
-    let mut i: usize = 0;
-    while i < n {
-        if is_long(t, list, i) {
-            return line_of(list, i);
+    for field in file.fields {
+        if is_long(file, *field) {
+            return field.line();
         }
-        i += 1;
     }
     NO_LINE
 }
 
 // How many access descriptors an entry has.
-fn descriptors_in(t: &[u8], list: &[u32], from: usize, to: usize) -> usize
-    requires { field_size * to ≤ length list.now }
-    ensures { (result ≡ descriptors_in (between t.now list.now from to)) × (result ≤ 2 * (1 + to)) }
+fn descriptors_in(entry: Stretch) -> usize
+    ensures value { result ≡ descriptors_in (stretch_of entry.entry) }
+    ensures upper_bound { result ≤ 2 * (1 + entry.entry.to) }
 {
-    descriptors_of(t, list, rows::CAN_READ, from, to)
-        + descriptors_of(t, list, rows::CAN_WRITE, from, to)
+    entry.descriptors_of(rows::CAN_READ) + entry.descriptors_of(rows::CAN_WRITE)
 }
 
 // The line of the entry with which the access descriptors pass their limit.
-fn descriptors_line(t: &[u8], list: &[u32], n: usize) -> usize
-    requires { field_size * n ≤ length list.now }
-    ensures { result ≡ passing line_of_entry descriptors_in most_descriptors 0 (entries_of (between t.now list.now 0 n)) }
+fn descriptors_line(file: File) -> usize
+    ensures { result ≡ passing line_of_entry descriptors_in most_descriptors 0 (entries_of (fields_of file.entry)) }
 {
     let mut sum: usize = 0;
-    let mut from = next_at(list, rows::PRINCIPAL, 0, n);
-    while from < n {
-        let to = next_at(list, rows::PRINCIPAL, from + 1, n);
-        sum += descriptors_in(t, list, from, to);
+    for entry in file.entries() {
+        sum += descriptors_in(entry);
         if limit::DESCRIPTORS < sum {
-            return line_of(list, from);
+            return entry.line();
         }
-        from = to;
     }
     NO_LINE
 }
 
 // The domains and members of both maps: fields behind them are not asked.
-fn map_line(t: &[u8], list: &[u32], n: usize, after: usize) -> usize
-    requires { field_size * n ≤ length list.now }
-    ensures { result ≡ map_line (between t.now list.now 0 n) after }
+fn map_line(file: File, after: usize) -> usize
+    ensures { result ≡ map_line (fields_of file.entry) after }
 {
-    let end = maps_end(list, n);
-    let objects = passing_line(
-        t,
-        list,
-        end,
-        Count::Fields,
-        rows::OBJECT_NAME,
-        limit::DOMAINS,
-    );
-    let subjects = passing_line(
-        t,
-        list,
-        end,
-        Count::Fields,
-        rows::SUBJECT_NAME,
-        limit::DOMAINS,
-    );
-    let object_members = passing_line(
-        t,
-        list,
-        end,
-        Count::Members,
-        rows::OBJECT_MEMBERS,
-        limit::MEMBERS,
-    );
-    let subject_members = passing_line(
-        t,
-        list,
-        end,
-        Count::Members,
-        rows::SUBJECT_MEMBERS,
-        limit::MEMBERS,
-    );
+    let maps = file.maps();
+    let objects = count_line(maps, rows::OBJECT_NAME, limit::DOMAINS);
+    let subjects = count_line(maps, rows::SUBJECT_NAME, limit::DOMAINS);
+    let object_members = members_line(maps, rows::OBJECT_MEMBERS);
+    let subject_members = members_line(maps, rows::SUBJECT_MEMBERS);
     earlier(
         objects,
         earlier(
@@ -154,17 +131,14 @@ fn map_line(t: &[u8], list: &[u32], n: usize, after: usize) -> usize
 }
 
 // 6 over the whole file.
-pub fn over_limit(t: &[u8], list: &[u32], n: usize) -> usize
-    requires { field_size * n ≤ length list.now }
-    ensures { result ≡ over_limit (between t.now list.now 0 n) }
+pub fn over_limit(file: File) -> usize
+    ensures { result ≡ over_limit (fields_of file.entry) }
 {
-    let entries = passing_line(t, list, n, Count::Fields, rows::PRINCIPAL, limit::ENTRIES);
-    let patterns = long_line(t, list, n);
-    let descriptors = descriptors_line(t, list, n);
+    let entries = count_line(file.all(), rows::PRINCIPAL, limit::ENTRIES);
+    let patterns = long_line(file);
+    let descriptors = descriptors_line(file);
     map_line(
-        t,
-        list,
-        n,
+        file,
         earlier(entries, earlier(patterns, earlier(descriptors, NO_LINE))),
     )
 }

@@ -2,8 +2,10 @@
 use mathlib.Core.Path.{◌≡◌, refl, ap, ◌∙◌}
 use mathlib.Core.List.{List}
 use Prim.Native.Nat.{ℕ, ◌<◌, ◌≤◌}
-use lib.ListN.{length}
+use lib.ListN.{length, take}
 use borrow.Author.Tests.{lt-ltb, le-ltb}
+use Rattle.std.specs.Prelude.{Result, Ok, Err}
+use Rattle.paper.specs.declared.Fault.{Fault}
 use Rattle.paper.specs.declared.Reading.{Reading}
 use Rattle.paper.specs.declared.Reading.TheVariants.{Accepted, Unread}
 use Rattle.paper.specs.Page.{Field}
@@ -11,8 +13,7 @@ use Rattle.paper.specs.Rules.{ruled}
 use Rattle.paper.specs.Promises.{text_page, reading_of}
 use Rattle.file_fields.specs.Fields.{between}
 use Rattle.file_fields.specs.Listed.{found_in}
-use Rattle.file_fields.specs.declared.Found.{Found}
-use Rattle.file_fields.specs.declared.Found.TheVariants.{Listed, Refused}
+use Rattle.file_fields.specs.declared.file.FieldAt.{FieldAt}
 use Rattle.file_read.proofs.Finding.{file_refused, file_held, rules_fault, rules_hold}
 use Rattle.filled_lines.specs.Wrote.{Wrote}
 use Rattle.file_listing.specs.declared.Listing.{Listing}
@@ -53,21 +54,21 @@ module _ (fs : List Field) (r : Reading) (e : r ≡ reading_of (ruled fs)) where
 
 -- ---- the page
 
-module _ (t list : List ℕ) (f : Found) (e : found_in t list f ≡ text_page t) where
-  module _ (k m : ℕ) (q : f ≡ Refused k m) where
-    pub page_refuses : listing.Unlisted k m ≡ list_answer t
+module _ (t : List ℕ) (list : List FieldAt) (r : Result ℕ Fault) (e : found_in t list r ≡ text_page t) where
+  module _ (f : Fault) (q : r ≡ Err f) where
+    pub page_refuses : listing.Unlisted f.number f.line ≡ list_answer t
     unfolding list_answer
-    page_refuses = rw (file_refused t list f e k m q) refl
+    page_refuses = rw (file_refused t list r e f q) refl
 
     pub page_untouched : (out : List ℕ) → out ≡ list_leaves t out
     unfolding list_leaves
-    page_untouched out = rw (file_refused t list f e k m q) refl
+    page_untouched out = rw (file_refused t list r e f q) refl
 
-  module _ (n : ℕ) (q : f ≡ Listed n) where
-    pub page_answers : (a : Listing) → a ≡ listing_of (ruled (between t list 0 n)) → a ≡ list_answer t
+  module _ (n : ℕ) (q : r ≡ Ok n) where
+    pub page_answers : (a : Listing) → a ≡ listing_of (ruled (between t (take n list) 0 (length (take n list)))) → a ≡ list_answer t
     unfolding list_answer
-    page_answers a h = h ∙ rw (file_held t list f e n q) refl
+    page_answers a h = h ∙ rw (file_held t list r e n q) refl
 
-    pub page_leaves : (out after : List ℕ) → after ≡ words_listed (ruled (between t list 0 n)) out → after ≡ list_leaves t out
+    pub page_leaves : (out after : List ℕ) → after ≡ words_listed (ruled (between t (take n list) 0 (length (take n list)))) out → after ≡ list_leaves t out
     unfolding list_leaves
-    page_leaves out after h = h ∙ rw (file_held t list f e n q) refl
+    page_leaves out after h = h ∙ rw (file_held t list r e n q) refl

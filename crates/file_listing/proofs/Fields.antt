@@ -7,6 +7,7 @@ use mir.Syntax.{w64}
 use mir.Val.{Fits}
 use lib.ListN.{length}
 use Rattle.file_fields.specs.Fields.{field_at, between}
+use Rattle.file_fields.specs.declared.file.FieldAt.{FieldAt}
 use Rattle.file_fields.proofs.Between.{between_more, between_none}
 use Rattle.filled_lines.specs.Wrote.{Wrote}
 use Rattle.filled_lines.proofs.Writing.{left, over, Writing, begin, start, same, finish, fits, more}
@@ -15,10 +16,10 @@ use Rattle.file_things.specs.Writable.{Writable, behind_in}
 use Rattle.file_things.proofs.Elements.{next_asked}
 
 -- the things of the fields before number i are there
-abbrev pub ThingsWritten : List ℕ → List ℕ → ℕ → ℕ → List ℕ → List ℕ → ℕ → Type 0
+abbrev pub ThingsWritten : List ℕ → List FieldAt → ℕ → ℕ → List ℕ → List ℕ → ℕ → Type 0
 ThingsWritten t list n i old out at = Writing (things_of (between t list 0 n)) (things_of (between t list i n)) old out at
 
-module _ (t list : List ℕ) (n : ℕ) (old : List ℕ) where
+module _ (t : List ℕ) (list : List FieldAt) (n : ℕ) (old : List ℕ) where
   pub things_begin : Writable (things_of (between t list 0 n)) old → ThingsWritten t list n 0 old old 0
   things_begin a = begin (things_of (between t list 0 n)) (things_of (between t list 0 n)) old refl a.room
 

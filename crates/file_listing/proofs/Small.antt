@@ -8,6 +8,8 @@ use native.Mathlib.Omega.{arith}
 use lib.Dec.{eqb, leb}
 use lib.ListN.{length, get_or, take, drop, length-append, length-take, length-drop}
 use borrow.Author.Tests.{eqb-true, eqb-false, le-leb, leb-true}
+use Rattle.std.specs.Prelude.{Result, Ok}
+use Rattle.paper.specs.declared.Fault.{Fault}
 use Rattle.paper.specs.Common.{is_empty, all_of, any_of}
 use Rattle.paper.specs.Limits.{text_bytes}
 use Rattle.paper.specs.Text.{lines, close_bracket}
@@ -24,8 +26,7 @@ use Rattle.laws_file.specs.Accepted.{is_filled}
 use Rattle.laws_file.proofs.Ordered.{fields_filled}
 use Rattle.file_fields.specs.Fields.{list_spaced, well_spaced, between}
 use Rattle.file_fields.specs.Listed.{found_in}
-use Rattle.file_fields.specs.declared.Found.{Found}
-use Rattle.file_fields.specs.declared.Found.TheVariants.{Listed}
+use Rattle.file_fields.specs.declared.file.FieldAt.{FieldAt}
 use Rattle.file_read.specs.Readable.{is_low, Readable}
 use Rattle.file_read.proofs.Pages.{text_readable, text_page_lem, text_short}
 use Rattle.file_things.specs.Things.{thing, name_thing, element_things, each_thing, naming_at, things_as, things_in, things_of}
@@ -202,5 +203,6 @@ page_small t fs h =
     (fields_stand t before_first 1 0 fs e) r.spaced r.low
 
 -- of the fields that the walk over a text found
-pub found_small : (t list : List ℕ) (r : Found) → found_in t list r ≡ text_page t → (n : ℕ) → r ≡ Listed n → AllSmall (things_of (between t list 0 n))
-found_small t list r e n q = page_small t (between t list 0 n) (rw q at e)
+pub found_small : (t : List ℕ) (list : List FieldAt) (r : Result ℕ Fault) → found_in t list r ≡ text_page t → (n : ℕ) → r ≡ Ok n
+    → AllSmall (things_of (between t (take n list) 0 (length (take n list))))
+found_small t list r e n q = page_small t (between t (take n list) 0 (length (take n list))) (rw q at e)

@@ -3,7 +3,10 @@ use mathlib.Core.Path.{◌≡◌, refl, ◌∙◌}
 use mathlib.Core.List.{List}
 use Prim.Native.Nat.{ℕ}
 use native.Mathlib.Omega.{arith}
+use lib.ListN.{length, take}
 use borrow.Rule.Slice.Shared.{by_byte}
+use Rattle.std.specs.Prelude.{Result, Ok, Err}
+use Rattle.paper.specs.declared.Fault.{Fault}
 use Rattle.paper.specs.declared.Map.{Map}
 use Rattle.paper.specs.declared.Reading.{Reading}
 use Rattle.paper.specs.declared.Reading.TheVariants.{Accepted, Unread}
@@ -14,8 +17,7 @@ use Rattle.paper.specs.Lookup.{Stretch, names_of, name_among, name_in, VeryStret
 use Rattle.paper.specs.Promises.{text_page, reading_of, lookup_answer}
 use Rattle.file_fields.specs.Fields.{between}
 use Rattle.file_fields.specs.Listed.{found_in}
-use Rattle.file_fields.specs.declared.Found.{Found}
-use Rattle.file_fields.specs.declared.Found.TheVariants.{Listed, Refused}
+use Rattle.file_fields.specs.declared.file.FieldAt.{FieldAt}
 use Rattle.file_read.proofs.Finding.{file_refused, file_held, rules_fault, rules_hold}
 use Rattle.file_lookup.specs.declared.Place.{Place}
 use Rattle.file_lookup.specs.Place.{stretch_in, bytes_in, EndsWithBytes, InText}
@@ -37,14 +39,14 @@ module _ (fs : List Field) (r : Reading) (e : r ≡ reading_of (ruled fs)) (whic
 
 -- ---- the page
 
-module _ (t list : List ℕ) (f : Found) (e : found_in t list f ≡ text_page t) (which : Map) (d : ℕ) where
-  pub page_refuses : (k m : ℕ) → f ≡ Refused k m → at_front t ≡ lookup_answer t which d
+module _ (t : List ℕ) (list : List FieldAt) (r : Result ℕ Fault) (e : found_in t list r ≡ text_page t) (which : Map) (d : ℕ) where
+  pub page_refuses : (f : Fault) → r ≡ Err f → at_front t ≡ lookup_answer t which d
   unfolding lookup_answer
-  page_refuses k m q = no_name t ∙ rw (file_refused t list f e k m q) refl
+  page_refuses f q = no_name t ∙ rw (file_refused t list r e f q) refl
 
-  pub page_answers : (n : ℕ) → f ≡ Listed n → (s : Stretch) → s ≡ name_in which d (ruled (between t list 0 n)) → s ≡ lookup_answer t which d
+  pub page_answers : (n : ℕ) → r ≡ Ok n → (s : Stretch) → s ≡ name_in which d (ruled (between t (take n list) 0 (length (take n list)))) → s ≡ lookup_answer t which d
   unfolding lookup_answer
-  page_answers n q s h = h ∙ rw (file_held t list f e n q) refl
+  page_answers n q s h = h ∙ rw (file_held t list r e n q) refl
 
 -- ---- where it lies
 
@@ -68,6 +70,6 @@ module _ (t : List ℕ) (which : Map) (d : ℕ) (r : Place) (e : stretch_in t r 
   very_stretch lent = rw (← e) (refl, omega arith, refl)
 
 -- the place of a name that was looked up among the fields of the page
-pub page_in_text : (t list : List ℕ) (f : Found) → found_in t list f ≡ text_page t → (which : Map) (d n : ℕ) → f ≡ Listed n
-    → (r : Place) → stretch_in t r ≡ name_in which d (ruled (between t list 0 n)) → EndsWithBytes t r → InText t r
-page_in_text t list f e which d n q r h ends = in_text t which d r (page_answers t list f e which d n q (stretch_in t r) h) ends
+pub page_in_text : (t : List ℕ) (list : List FieldAt) (r : Result ℕ Fault) → found_in t list r ≡ text_page t → (which : Map) (d n : ℕ) → r ≡ Ok n
+    → (p : Place) → stretch_in t p ≡ name_in which d (ruled (between t (take n list) 0 (length (take n list)))) → EndsWithBytes t p → InText t p
+page_in_text t list r e which d n q p h ends = in_text t which d p (page_answers t list r e which d n q (stretch_in t p) h) ends

@@ -1,20 +1,27 @@
--- Where a value stands, and number d among the fields of a place: each loop says what is left.
+-- Where a value stands, and number d among the fields of a place.
 use mathlib.Core.Path.{◌≡◌, refl, sym, ap, ◌∙◌}
 use mathlib.Core.Bool.{Bool, true, false, cond}
-use mathlib.Core.List.{List, [], ◌∷◌}
+use mathlib.Core.Logic.{⊎_elim}
+use mathlib.Core.List.{List, [], ◌∷◌, map}
 use Prim.Native.Nat.{ℕ, zero, suc, ◌+◌, ◌-◌, ◌^◌, ◌*◌, ◌<◌, ◌≤◌}
 use native.Mathlib.Omega.{arith}
 use mir.Syntax.{w64}
 use mir.Val.{Fits}
-use lib.Dec.{eqb, ltb}
-use lib.ListN.{length, take, drop, length-take, length-drop}
-use borrow.Author.Tests.{eq-eqb, ne_eqb, lt-ltb, le-ltb, ltb-true}
-use Rattle.paper.specs.Page.{Field}
+use lib.Dec.{eqb}
+use lib.ListN.{length, get_or, take, drop, length-take, length-drop}
+use borrow.Author.Tests.{lt-ltb, le-ltb}
+use Rattle.std.specs.Prelude.{Option, Some, None}
+use Rattle.std.specs.List.{filter, slice_get}
+use Rattle.std.specs.Option.{option_map}
+use Rattle.std.proofs.lemmas.List.{length-map}
+use Rattle.std.proofs.lemmas.Option.{slice_get_within, get_or_from_slice_get, slice_get-map, slice_get-get_or}
+use Rattle.paper.specs.Page.{Field, no_field}
 use Rattle.paper.specs.Entries.{fields_at}
 use Rattle.paper.specs.Lookup.{Stretch, front, stretch_of, name_among}
-use Rattle.laws.proofs.Tests.{same_test}
-use Rattle.file_fields.specs.Fields.{place_in, start_in, end_in, value_in, field_at, between}
-use Rattle.file_fields.proofs.Between.{between_more, between_none}
+use Rattle.laws.proofs.Tests.{le_or_lt}
+use Rattle.file_fields.specs.Fields.{nowhere_at, stands_at, value_of, field_of, between}
+use Rattle.file_fields.specs.declared.file.FieldAt.{FieldAt}
+use Rattle.file_fields.proofs.Items.{fields_mapped}
 
 -- ---- the value of a field
 
@@ -23,20 +30,19 @@ take_again zero xs = refl
 take_again (suc k) [] = refl
 take_again (suc k) (x ∷ xs) = ap (λ (l : List ℕ). x ∷ l) (take_again k xs)
 
-module _ (t list : List ℕ) (i s : ℕ) (v : List ℕ) (e : s ≡ start_in list i) (q : v ≡ value_in t list i) where
+module _ (t : List ℕ) (f : FieldAt) (s : ℕ) (v : List ℕ) (e : s ≡ f.start) (q : v ≡ value_of t f) where
   bytes_are : take (s + length v - s) (drop s t) ≡ v
   bytes_are =
       let k : s + length v - s ≡ length v = omega arith in
-      rw (k, q, e) (take_again (end_in list i - start_in list i) (drop (start_in list i) t))
+      rw (k, q, e) (take_again (f.end - f.start) (drop f.start t))
 
   pub value_fits : s < 2 ^ 64 → length t * 1 < 2 ^ 63 → Fits w64 (s + length v)
   value_fits a b =
-      let k : length v ≤ length t - s =
-      rw (q, e) (omega (arith, length-take (end_in list i - start_in list i) (drop (start_in list i) t), length-drop (start_in list i) t)) in
+      let k : length v ≤ length t - s = rw (q, e) (omega (arith, length-take (f.end - f.start) (drop f.start t), length-drop f.start t)) in
       omega arith
 
-  pub value_stretch : ◌≡◌ {A = Stretch} (record { start = s; bytes = take (s + length v - s) (drop s t) }) (stretch_of (field_at t list i))
-  unfolding stretch_of field_at
+  pub value_stretch : ◌≡◌ {A = Stretch} (record { start = s; bytes = take (s + length v - s) (drop s t) }) (stretch_of (field_of t f))
+  unfolding stretch_of field_of
   value_stretch = rw (bytes_are, q, e) refl
 
   pub value_ends : s + length v ≡ s + length (take (s + length v - s) (drop s t))
@@ -44,48 +50,48 @@ module _ (t list : List ℕ) (i s : ℕ) (v : List ℕ) (e : s ≡ start_in list
 
 -- ---- number d of the fields of a place
 
-below_more : (k n : ℕ) → ltb (suc k) (suc n) ≡ ltb k n
-below_more k n =
-    same_test (ltb (suc k) (suc n)) (ltb k n)
-    (λ h. lt-ltb k n (omega (arith, ltb-true (suc k) (suc n) h)))
-    (λ h. lt-ltb (suc k) (suc n) (omega (arith, ltb-true k n h)))
-
-first_name : (f : Field) (fs : List Field) → name_among (f ∷ fs) 0 ≡ stretch_of f
-unfolding name_among
-first_name f fs = rw (lt-ltb 0 (suc (length fs)) (omega arith)) refl
-
-later_name : (f : Field) (fs : List Field) (k : ℕ) → name_among (f ∷ fs) (suc k) ≡ name_among fs k
-unfolding name_among
-later_name f fs k = rw (below_more k (length fs)) refl
-
-past_names : (k : ℕ) → name_among [] k ≡ front
-unfolding name_among
-past_names k = rw (le-ltb k 0 (omega arith)) refl
+-- what is found is taken as it is
+pub as_it_is : (r o : Option FieldAt) → option_map (λ (x : FieldAt). x) r ≡ o → r ≡ o
+as_it_is None o e = e
+as_it_is (Some f) o e = e
 
 -- with nothing left there is none
 pub no_name : (t : List ℕ) → ◌≡◌ {A = Stretch} (record { start = 0; bytes = take (0 - 0) (drop 0 t) }) front
 unfolding front
 no_name t = refl
 
-module _ (t list : List ℕ) (place i n left : ℕ) (a : Stretch) (inv : name_among (fields_at place (between t list i n)) left ≡ a) where
-  module _ (r : ℕ) (q : r ≡ place_in list i) (h : i < n) where
-    opened : (b : Bool) → eqb r place ≡ b
-        → name_among (cond b (field_at t list i ∷ fields_at place (between t list (i + 1) n)) (fields_at place (between t list (i + 1) n))) left ≡ a
-    unfolding fields_at field_at
-    opened b e = let p : eqb (place_in list i) place ≡ b = rw q at e in rw (between_more t list i n h, p) at inv
+-- the fields of a place are those that stand there
+at_place_are : (t : List ℕ) (place : ℕ) (list : List FieldAt) → fields_at place (map (field_of t) list) ≡ map (field_of t) (filter (stands_at place) list)
+unfolding fields_at field_of
+at_place_are t place [] = refl
+at_place_are t place (f ∷ fs) = go (eqb f.place place) (at_place_are t place fs)
+  where
+    go : (b : Bool) → fields_at place (map (field_of t) fs) ≡ map (field_of t) (filter (stands_at place) fs)
+        → cond b (field_of t f ∷ fields_at place (map (field_of t) fs)) (fields_at place (map (field_of t) fs)) ≡ map (field_of t) (cond b (f ∷ filter (stands_at place) fs) (filter (stands_at place) fs))
+    go true h = ap (λ (l : List Field). field_of t f ∷ l) h
+    go false h = h
 
-    pub among_other : (r ≡ place → ⊥) → name_among (fields_at place (between t list (i + 1) n)) left ≡ a
-    among_other z = opened false (ne_eqb r place z)
+-- number d of them, as it is looked up
+module _ (t : List ℕ) (fs : List FieldAt) (d : ℕ) where
+  pub looked_up : (f : FieldAt) → slice_get fs d ≡ Some f → name_among (map (field_of t) fs) d ≡ stretch_of (field_of t f)
+  unfolding name_among
+  looked_up f e =
+      let g : get_or (map (field_of t) fs) d no_field ≡ field_of t f = get_or_from_slice_get (map (field_of t) fs) d (field_of t f) no_field (slice_get-map (field_of t) fs d ∙ ap (option_map (field_of t)) e) in
+      rw (length-map, lt-ltb d (length fs) (slice_get_within fs d f e), g) refl
 
-    pub among_here : r ≡ place → left ≡ 0 → (s : Stretch) → s ≡ stretch_of (field_at t list i) → s ≡ a
-    among_here z l s g = g ∙ rw (l, first_name (field_at t list i) (fields_at place (between t list (i + 1) n))) at (opened true (eq-eqb r place z))
+  pub looked_past : slice_get fs d ≡ None → name_among (map (field_of t) fs) d ≡ front
+  unfolding name_among
+  looked_past e = ⊎_elim
+      (λ (h : length fs ≤ d). rw (length-map, le-ltb d (length fs) h) refl)
+      (λ (h : d < length fs). let g : slice_get fs d ≡ Some (get_or fs d nowhere_at) = slice_get-get_or fs d nowhere_at h in absurd (let z : ◌≡◌ {A = Option FieldAt} None (Some (get_or fs d nowhere_at)) = sym e ∙ g in cc))
+      (le_or_lt (length fs) d)
 
-    pub among_next : r ≡ place → (left ≡ 0 → ⊥) → name_among (fields_at place (between t list (i + 1) n)) (left - 1) ≡ a
-    among_next z l =
-        let e : left ≡ suc (left - 1) = omega arith in
-        sym (later_name (field_at t list i) (fields_at place (between t list (i + 1) n)) (left - 1))
-        ∙ ap (name_among (field_at t list i ∷ fields_at place (between t list (i + 1) n))) (sym e) ∙ opened true (eq-eqb r place z)
+module _ (t : List ℕ) (list : List FieldAt) (place d : ℕ) (r : Option FieldAt) (q : r ≡ slice_get (filter (stands_at place) list) d) where
+  names_are : name_among (fields_at place (between t list 0 (length list))) d ≡ name_among (map (field_of t) (filter (stands_at place) list)) d
+  names_are = ap (λ (fs : List Field). name_among fs d) (ap (fields_at place) (fields_mapped t list) ∙ at_place_are t place list)
 
-  pub among_none : n ≤ i → ◌≡◌ {A = Stretch} (record { start = 0; bytes = take (0 - 0) (drop 0 t) }) a
-  unfolding fields_at
-  among_none h = no_name t ∙ sym (past_names left) ∙ rw (between_none t list i n h) at inv
+  pub name_here : (f : FieldAt) → r ≡ Some f → (s : Stretch) → s ≡ stretch_of (field_of t f) → s ≡ name_among (fields_at place (between t list 0 (length list))) d
+  name_here f e s g = g ∙ sym (names_are ∙ looked_up t (filter (stands_at place) list) d f (sym q ∙ e))
+
+  pub name_nowhere : r ≡ None → ◌≡◌ {A = Stretch} (record { start = 0; bytes = take (0 - 0) (drop 0 t) }) (name_among (fields_at place (between t list 0 (length list))) d)
+  name_nowhere e = no_name t ∙ sym (names_are ∙ looked_past t (filter (stands_at place) list) d (sym q ∙ e))

@@ -20,10 +20,10 @@ use Rattle.paper.specs.Rules.{first_with, subject_lists, object_lists, domains_a
 use Rattle.paper.specs.Policy.{all, fn, any_in, element_of}
 use Rattle.paper.specs.Table.{first_domain_word, element_word}
 use Rattle.laws.proofs.Tests.{ltb_shifted, le_or_lt}
-use Rattle.file_fields.specs.Fields.{place_in, value_in, field_at}
+use Rattle.file_fields.specs.Fields.{field_of, place_in, value_in, field_at}
 use Rattle.file_index.specs.Buckets.{numbers_in}
 use Rattle.file_index.specs.Maps.{Mapped}
-use Rattle.file_index.proofs.Names.{same_sym, any_more, among_number}
+use Rattle.file_index.proofs.Numbers.{same_sym, any_more, among_number}
 use Rattle.file_index.proofs.Known.{index_known}
 use Rattle.file_words.specs.Looking.{sought_at}
 use Rattle.file_words.specs.Words.{numbers_of, words_by, field_words, words_in, Worded}
@@ -31,6 +31,7 @@ use Rattle.file_words.proofs.Worded.{words_of_field}
 use Rattle.file_words.specs.declared.places.Sought.{Sought}
 use Rattle.file_words.specs.declared.places.Sought.TheVariants.{Subject, Subjects, Objects, Elements, Nothing}
 use Rattle.file_names.specs.Below.{all_below}
+use Rattle.file_fields.specs.declared.file.FieldAt.{FieldAt}
 
 -- ---- every word below a limit
 
@@ -111,9 +112,9 @@ module _ (file : List Field) where
       go false false false true = refl
       go false false false false = refl
 
-  module _ (t list : List ℕ) (i p : ℕ) (k : Sought) (e : p ≡ place_in list i) (f : k ≡ sought_at p) where
+  module _ (t : List ℕ) (list : List FieldAt) (i p : ℕ) (k : Sought) (e : p ≡ place_in list i) (f : k ≡ sought_at p) where
     told : lacks k (value_in t list i) ≡ names_unknown file (field_at t list i)
-    unfolding field_at
+    unfolding field_of
     told = rw (f, e) (by_the_file (field_at t list i))
 
     pub asks_nothing : k ≡ Nothing → false ≡ names_unknown file (field_at t list i)
@@ -126,7 +127,7 @@ module _ (file : List Field) where
 
     module _ (words starts ws : List ℕ) (n : ℕ) (worded : Worded (numbers_of file) t list n words starts) (l : i < n) (q : ws ≡ words_in words starts i) where
       its_words : ws ≡ words_by (numbers_of file) k (value_in t list i)
-      unfolding field_words field_at
+      unfolding field_words field_of
       its_words = q ∙ rw (f, e) (words_of_field (numbers_of file) t list n words starts worded i l)
 
       module _ (limit : ℕ) (r : Bool) (g : r ≡ all_below limit ws) where

@@ -25,14 +25,16 @@ use Rattle.file_index.specs.Buckets.{Index}
 use Rattle.file_index.specs.Maps as index
 use Rattle.file_index.specs.Maps.{Maps}
 use Rattle.file_index.proofs.Known.{index_cleared}
-use Rattle.file_words.specs.Words.{numbers_by, numbers_of, Worded}
+use Rattle.file_index.specs.declared.maps.MapNames.{MapNames}
+use Rattle.file_words.specs.Words.{numbers_from, numbers_by, numbers_of, Worded}
 use Rattle.file_words.proofs.Worded.{worded_known}
 use Rattle.file_names.specs.Naming.{Sound, named_at, names_to, NamesEnd, IndexedAs}
-use Rattle.file_names.specs.Mapping.{Fresh, MapsTo, Distinct}
+use Rattle.file_names.specs.Mapping.{Fresh, HasRoom, MapsTo, Distinct}
 use Rattle.file_names.specs.declared.indexes.Indexed.{Indexed}
-use Rattle.file_names.specs.declared.Names.{Names}
+use Rattle.file_names.specs.declared.Named.{Named}
 use Rattle.file_names.proofs.Seen.{repeated_none, fewer_names}
 use Rattle.file_names.proofs.Namings.{named_both, domains_named, members_named_lem, members_total, domains_total, domains_one, first_part, second_part}
+use Rattle.file_fields.specs.declared.file.FieldAt.{FieldAt}
 
 no_length : {A : Type 0} (xs : List A) → length xs ≡ 0 → xs ≡ []
 no_length [] h = refl
@@ -48,7 +50,7 @@ cleared t size m = index_cleared t size m
 
 -- ---- the fields of the maps
 
-module _ (t list : List ℕ) (n end : ℕ) (e : end ≡ maps_end list n) where
+module _ (t : List ℕ) (list : List FieldAt) (n end : ℕ) (e : end ≡ maps_end list n) where
   names_end : (names : Field → List (List ℕ)) → ((f : Field) → principal ≤ f.place → names f ≡ []) → NamesEnd names t list n end
   unfolding flat_map
   names_end names none =
@@ -92,7 +94,7 @@ module _ (t list : List ℕ) (n end : ℕ) (e : end ≡ maps_end list n) where
 
 -- ---- room
 
-module _ (t list : List ℕ) (n : ℕ) (sound : Sound t list n) (limits : over_limit (between t list 0 n) ≡ 0) where
+module _ (t : List ℕ) (list : List FieldAt) (n : ℕ) (sound : Sound t list n) (limits : over_limit (between t list 0 n) ≡ 0) where
   -- the fields
   abbrev fs : List Field
   fs = between t list 0 n
@@ -201,14 +203,23 @@ module _ (t list : List ℕ) (n : ℕ) (sound : Sound t list n) (limits : over_l
     unfolding all_of
     functions_once z = let k = nothing_twice z in eqb-true _ _ (search (both_left, both_right) depth 10)
 
-    pub maps_told : (oix six fix : List ℕ) (r : Names) → MapsTo t fs oix six fix r → a ≡ 0 → Maps t fs oix six fix r.objects r.subjects r.functions
+    pub maps_told : (oix six fix : List ℕ) (r : Named) → MapsTo t fs oix six fix r → a ≡ 0 → Maps t fs oix six fix r.objects r.subjects r.functions
     maps_told oix six fix r maps z = maps.maps (domains_once z) (maps.line ∙ functions_once z)
 
     -- the words that the indexes gave are those that the file gives
-    pub words_told : (oix six fix words starts : List ℕ) (r : Names) → MapsTo t fs oix six fix r
+    words_told : (oix six fix words starts : List ℕ) (r : Named) → MapsTo t fs oix six fix r
         → Worded (numbers_by t oix r.objects six r.subjects fix r.functions) t list n words starts → a ≡ 0 → Worded (numbers_of fs) t list n words starts
     words_told oix six fix words starts r maps w z =
         worded_known t fs oix six fix r.objects r.subjects r.functions (maps_told oix six fix r maps z) list n words starts w
+
+    -- as the code has the maps
+    pub words_from : (oix six fix words starts : List ℕ) (r : Named) → MapsTo t fs oix six fix r → (m : MapNames)
+        → (m.objects.index.now ≡ oix) × (m.objects.count ≡ r.objects) → (m.subjects.index.now ≡ six) × (m.subjects.count ≡ r.subjects)
+        → (m.functions.index.now ≡ fix) × (m.functions.count ≡ r.functions)
+        → Worded (numbers_from t m) t list n words starts → a ≡ 0 → Worded (numbers_of fs) t list n words starts
+    words_from oix six fix words starts r maps m x y k w z =
+        let by : Worded (numbers_by t oix r.objects six r.subjects fix r.functions) t list n words starts = rw (x.0, x.1, y.0, y.1, k.0, k.1) at w in
+        words_told oix six fix words starts r maps by z
 
     pub distinct_told : a ≡ 0 → Distinct fs
     distinct_told z = record {
@@ -223,17 +234,5 @@ module _ (t list : List ℕ) (n : ℕ) (sound : Sound t list n) (limits : over_l
 pub still_room : (n before after : ℕ) → n < before → after ≡ before → n < after
 still_room n before after h e = omega arith
 
-went_in : (t ix ix₀ : List ℕ) (n limit : ℕ) → n ≤ limit → Fresh t ix₀ limit → length ix ≡ length ix₀ → (names_at + name_size * n ≤ length ix) × (n ≤ limit)
-went_in t ix ix₀ n limit few fresh e = (omega (arith, fresh.room), few)
-
-pub went_room : (t : List ℕ) (fs : List Field) (oix oix₀ six six₀ fix fix₀ : List ℕ) (r : Names) → MapsTo t fs oix six fix r
-    → Fresh t oix₀ 128 → Fresh t six₀ 128 → Fresh t fix₀ 1024 → length oix ≡ length oix₀ → length six ≡ length six₀ → length fix ≡ length fix₀
-    → ((names_at + name_size * r.objects ≤ length oix) × (r.objects ≤ 128))
-    × (((names_at + name_size * r.subjects ≤ length six) × (r.subjects ≤ 128)) × ((names_at + name_size * r.functions ≤ length fix) × (r.functions ≤ 1024)))
-went_room t fs oix oix₀ six six₀ fix fix₀ r maps of sf ff a b d = (
-  went_in t oix oix₀ r.objects 128 maps.few_objects of a,
-  (
-    went_in t six six₀ r.subjects 128 maps.few_subjects sf b,
-    went_in t fix fix₀ r.functions 1024 maps.few_functions ff d,
-  ),
-)
+pub went_room : (t : List ℕ) (ix ix₀ : List ℕ) (n limit : ℕ) → n ≤ limit → Fresh t ix₀ limit → length ix ≡ length ix₀ → HasRoom ix n limit
+went_room t ix ix₀ n limit few fresh e = record { room = omega (arith, fresh.room); few = few }

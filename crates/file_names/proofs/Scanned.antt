@@ -13,11 +13,11 @@ use Rattle.paper.specs.Page.{Field}
 use Rattle.paper.specs.Entries.{is_at_one, call_contexts}
 use Rattle.paper.specs.Rules.{first_with, repeats, subject_lists, object_lists, repeats_in_list}
 use Rattle.laws.proofs.Tests.{both_left, both_right}
-use Rattle.file_fields.specs.Fields.{place_in, line_in, start_in, value_in, field_at, between, well_spaced}
+use Rattle.file_fields.specs.Fields.{field_of, place_in, line_in, start_in, value_in, field_at, between, well_spaced}
 use Rattle.file_fields.specs.Values.{inside_of}
 use Rattle.file_fields.proofs.Between.{between_more, between_none}
 use Rattle.file_fields.proofs.Valued.{inside_elements, inside_spaced, inside_short}
-use Rattle.file_index.proofs.Names.{any_more}
+use Rattle.file_index.proofs.Numbers.{any_more}
 use Rattle.file_words.specs.Looking.{sought_at}
 use Rattle.file_words.specs.Words.{Numbers, words_by, field_words, words_in, Worded, WordedSomehow}
 use Rattle.file_words.proofs.Worded.{words_of_field}
@@ -25,13 +25,14 @@ use Rattle.file_words.specs.declared.places.Sought.{Sought}
 use Rattle.file_words.specs.declared.places.Sought.TheVariants.{Subject, Subjects, Objects, Elements, Nothing}
 use Rattle.file_names.specs.Separate.{separate, is_listed, list_separate, lists_separate}
 use Rattle.file_names.proofs.Apart.{separate_once}
+use Rattle.file_fields.specs.declared.file.FieldAt.{FieldAt}
 
 -- ---- the scan
 
-module _ (test : Field → Bool) (t list : List ℕ) (n i whole : ℕ) (inv : first_with test (between t list i n) ≡ whole) where
+module _ (test : Field → Bool) (t : List ℕ) (list : List FieldAt) (n i whole : ℕ) (inv : first_with test (between t list i n) ≡ whole) where
   module _ (h : i < n) (b : Bool) (e : b ≡ test (field_at t list i)) where
     scan_step : cond b (line_in list i) (first_with test (between t list (i + 1) n)) ≡ whole
-    unfolding first_with field_at
+    unfolding first_with field_of
     scan_step = rw (between_more t list i n h, ← e) at inv
 
     pub scan_here : (line : ℕ) → b ≡ true → line ≡ line_in list i → line ≡ whole
@@ -46,9 +47,9 @@ module _ (test : Field → Bool) (t list : List ℕ) (n i whole : ℕ) (inv : fi
 
 -- ---- what stands between the brackets of a field's list
 
-module _ (t list v s : List ℕ) (i : ℕ) (q : v ≡ value_in t list i) (g : s ≡ inside_of v) where
+module _ (t : List ℕ) (list : List FieldAt) (v s : List ℕ) (i : ℕ) (q : v ≡ value_in t list i) (g : s ≡ inside_of v) where
   pub field_spaced : well_spaced (field_at t list i) ≡ true → spaced 0 s ≡ true
-  unfolding well_spaced field_at
+  unfolding well_spaced field_of
   field_spaced h = rw g (inside_spaced v (rw q h))
 
   pub field_small : length t ≤ 65536 → length s ≤ 65536
@@ -77,17 +78,17 @@ module _ (place : ℕ) where
       go false e false false false p q = rw (p, q) refl
 
 -- the field is a list of domains
-abbrev listed : List ℕ → ℕ → Bool
+abbrev listed : List FieldAt → ℕ → Bool
 listed list i = is_listed (sought_at (place_in list i))
 
-module _ (t list : List ℕ) (i : ℕ) where
+module _ (t : List ℕ) (list : List FieldAt) (i : ℕ) where
   repeats_listed : repeats_in_list (field_at t list i) ≡ (listed list i && repeats [] (elements (value_in t list i)))
-  unfolding repeats_in_list is_at_one field_at
+  unfolding repeats_in_list is_at_one field_of
   repeats_listed = rw (in_lists (place_in list i)) refl
 
 -- ---- the words of one field
 
-module _ (list words starts : List ℕ) (i p : ℕ) (k : Sought) (b : Bool) (e : p ≡ place_in list i) (f : k ≡ sought_at p) (g : b ≡ is_listed k) where
+module _ (list : List FieldAt) (words starts : List ℕ) (i p : ℕ) (k : Sought) (b : Bool) (e : p ≡ place_in list i) (f : k ≡ sought_at p) (g : b ≡ is_listed k) where
   separate_at : (l : Bool) → b ≡ l → cond l (separate (replicate 8 0) (words_in words starts i)) true ≡ list_separate list words starts i
   unfolding list_separate
   separate_at l h = rw (← e, ← f, ← g, h) refl
@@ -100,7 +101,7 @@ module _ (list words starts : List ℕ) (i p : ℕ) (k : Sought) (b : Bool) (e :
 
 -- ---- the words of every field
 
-module _ (list words starts : List ℕ) (i n : ℕ) where
+module _ (list : List FieldAt) (words starts : List ℕ) (i n : ℕ) where
   module _ (whole : Bool) (inv : lists_separate list words starts i n ≡ whole) where
     module _ (h : i < n) (b : Bool) (e : b ≡ list_separate list words starts i) where
       lists_step : (b && lists_separate list words starts (i + 1) n) ≡ whole
@@ -119,7 +120,7 @@ module _ (list words starts : List ℕ) (i n : ℕ) where
 
 -- ---- a name twice in a list
 
-pub somehow : (k : Numbers) (t list words starts : List ℕ) (n : ℕ) → Worded k t list n words starts → WordedSomehow t list n words starts
+pub somehow : (k : Numbers) (t : List ℕ) (list : List FieldAt) (words starts : List ℕ) (n : ℕ) → Worded k t list n words starts → WordedSomehow t list n words starts
 somehow k t list words starts n w = record { numbers = k; worded = w }
 
 -- the words of a list of domains are the numbers of its names, by one numbering or another
@@ -131,10 +132,10 @@ numbered n Objects v set l h s = separate_once n.object (elements v) set l s
 numbered n Elements v set l h s = absurd (let z : ◌≡◌ {A = ℕ} 0 1 = cc in omega arith)
 numbered n Nothing v set l h s = absurd (let z : ◌≡◌ {A = ℕ} 0 1 = cc in omega arith)
 
-module _ (t list words starts : List ℕ) (n : ℕ) (worded : WordedSomehow t list n words starts) where
+module _ (t : List ℕ) (list : List FieldAt) (words starts : List ℕ) (n : ℕ) (worded : WordedSomehow t list n words starts) where
   module _ (i : ℕ) (h : i < n) where
     its_words : words_in words starts i ≡ words_by worded.numbers (sought_at (place_in list i)) (value_in t list i)
-    unfolding field_words field_at
+    unfolding field_words field_of
     its_words = words_of_field worded.numbers t list n words starts worded.worded i h
 
     pub starts_room : i + 1 < length starts

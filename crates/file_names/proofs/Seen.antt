@@ -11,7 +11,7 @@ use Rattle.paper.specs.Page.{Field}
 use Rattle.paper.specs.Rules.{repeats, repeated}
 use Rattle.laws.proofs.Tests.{both_left, both_right, either_of, either_right, neither, neither_left, neither_right}
 use Rattle.laws_page.specs.Right.{is_numbered}
-use Rattle.file_index.proofs.Names.{among_more}
+use Rattle.file_index.proofs.Numbers.{among_more}
 
 -- two lists hold the same names
 abbrev pub Alike : List (List ℕ) → List (List ℕ) → Type 0

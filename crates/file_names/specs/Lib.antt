@@ -2,3 +2,4 @@ pub mod Naming
 pub mod Separate
 pub mod Below
 pub mod Mapping
+pub mod Numbered

@@ -8,15 +8,20 @@ use Rattle.paper.specs.Rules.{repeats, repeated, domain_named, members_named, do
 use Rattle.file_index.specs.Words.{names_at, name_size}
 use Rattle.file_index.specs.Buckets.{Index}
 use Rattle.file_index.specs.Maps.{Maps}
-use Rattle.file_names.specs.declared.Names.{Names}
+use Rattle.file_names.specs.declared.Named.{Named}
 
 -- an index with no name, and room for so many
 pub record Fresh (t ix : List ℕ) (limit : ℕ) : Type 0 where
   pub empty : Index t ix 0 []
   pub room : names_at + name_size * limit ≤ length ix
 
+-- an index has room for so many names, and there are no more than the limit
+pub record HasRoom (ix : List ℕ) (count limit : ℕ) : Type 0 where
+  pub room : names_at + name_size * count ≤ length ix
+  pub few : count ≤ limit
+
 -- the line of a function that stands twice; the indexes are those of the maps where there is none and no domain stands twice
-pub record MapsTo (t : List ℕ) (fs : List Field) (objectIx subjectIx functionIx : List ℕ) (r : Names) : Type 0 where
+pub record MapsTo (t : List ℕ) (fs : List Field) (objectIx subjectIx functionIx : List ℕ) (r : Named) : Type 0 where
   pub line : r.twice ≡ repeated (members_named subject_members) [] fs
   pub maps : repeated domain_named [] fs ≡ no_line → r.twice ≡ no_line → Maps t fs objectIx subjectIx functionIx r.objects r.subjects r.functions
   pub few_objects : r.objects ≤ most_domains

@@ -4,6 +4,7 @@ use Rattle.paper.specs.Common.{all_of, count_up}
 use Rattle.paper.specs.Limits.{most_domains}
 use Rattle.paper.specs.Table.{set_size, is_in, with_domain}
 use Rattle.file_fields.specs.Fields.{place_in}
+use Rattle.file_fields.specs.declared.file.FieldAt.{FieldAt}
 use Rattle.file_words.specs.Looking.{sought_at}
 use Rattle.file_words.specs.Words.{words_in}
 use Rattle.file_words.specs.declared.places.Sought.{Sought}
@@ -23,9 +24,9 @@ is_listed Elements = false
 is_listed Nothing = false
 
 -- so are those of field i, where it is a list of domains
-unfoldable pub list_separate : List ℕ → List ℕ → List ℕ → ℕ → Bool
+unfoldable pub list_separate : List FieldAt → List ℕ → List ℕ → ℕ → Bool
 list_separate list words starts i = cond (is_listed (sought_at (place_in list i))) (separate (replicate set_size 0) (words_in words starts i)) true
 
 -- so are those of the fields from one number up to another
-unfoldable pub lists_separate : List ℕ → List ℕ → List ℕ → ℕ → ℕ → Bool
+unfoldable pub lists_separate : List FieldAt → List ℕ → List ℕ → ℕ → ℕ → Bool
 lists_separate list words starts from to = all_of (list_separate list words starts) (count_up from (to - from))

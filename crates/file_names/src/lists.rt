@@ -3,15 +3,16 @@ ghost use Rattle.std.specs.Prelude.{◌≡◌, true, false, ◌+◌, ◌*◌, �
 ghost use Rattle.paper.specs.Limits.{text_bytes};
 ghost use Rattle.paper.specs.Table.{set_size};
 ghost use Rattle.paper.specs.Rules.{first_with, repeats_in_list};
-ghost use Rattle.file_fields.specs.Fields.{field_size, field_at, between, well_spaced};
+ghost use Rattle.file_fields.specs.Fields.{field_at, well_spaced};
+ghost use Rattle.file_fields.specs.Stretches.{fields_of};
 ghost use Rattle.file_words.specs.Words.{WordedSomehow};
-ghost use Rattle.file_names.specs.Naming.{Sound};
+ghost use Rattle.file_names.specs.Naming.{SoundFile};
 ghost use Rattle.file_names.specs.Separate.{separate, is_listed, list_separate, lists_separate};
 
+use file_fields::file::File;
 use file_fields::values::inside;
-use file_fields::{line_of, place_of, value_of};
+use file_words::Words;
 use file_words::places::{Sought, sought_at};
-use file_words::words_of;
 use paper::{Operation, limit};
 use table::layout;
 use text_lines::NO_LINE;
@@ -21,9 +22,8 @@ fn distinct(words: &[u16]) -> bool
     ensures { result ≡ separate (replicate set_size 0) words.now }
 {
     let mut seen = [0u16; layout::SET_SIZE];
-    let mut i: usize = 0;
-    while i < words.len() {
-        let k = words[i] as usize;
+    for word in words {
+        let k = *word as usize;
         if limit::DOMAINS <= k {
             return false;
         }
@@ -31,7 +31,6 @@ fn distinct(words: &[u16]) -> bool
             return false;
         }
         Operation::insert(&mut seen, k);
-        i += 1;
     }
     true
 }
@@ -50,61 +49,57 @@ fn is_listed(sought: Sought) -> bool
 }
 
 // The words of field i, where it is a list of domains, are numbers of domains, and no two are the same.
-fn list_distinct(list: &[u32], words: &[u16], starts: &[usize], i: usize) -> bool
-    requires i_in_bounds { field_size * (i + 1) ≤ length list.now }
-    requires starts_in_bounds { i + 1 < length starts.now }
-    ensures { result ≡ list_separate list.now words.now starts.now i }
+fn list_distinct(file: File, words: Words, i: usize) -> bool
+    requires i_in_bounds { i < length file.fields.now }
+    requires starts_in_bounds { i + 1 < length words.starts.now }
+    ensures { result ≡ list_separate file.entry.fields.now words.entry.words.now words.entry.starts.now i }
 {
-    if !is_listed(sought_at(place_of(list, i))) {
+    if !is_listed(sought_at(file.fields[i].place())) {
         return true;
     }
-    distinct(words_of(words, starts, i))
+    distinct(words.of(i))
 }
 
 // In every list of domains the words are numbers of domains, and no two are the same: most files are told so, quickly.
-fn lists_distinct(list: &[u32], n: usize, words: &[u16], starts: &[usize]) -> bool
-    requires { (field_size * n ≤ length list.now) × (n < length starts.now) }
-    ensures { result ≡ lists_separate list.now words.now starts.now 0 n }
+fn lists_distinct(file: File, words: Words) -> bool
+    requires { length file.fields.now < length words.starts.now }
+    ensures { result ≡ lists_separate file.entry.fields.now words.entry.words.now words.entry.starts.now 0 (length file.entry.fields.now) }
 {
-    let mut i: usize = 0;
-    while i < n {
-        if !list_distinct(list, words, starts, i) {
+    for i in 0..file.fields.len() {
+        if !list_distinct(file, words, i) {
             return false;
         }
-        i += 1;
     }
     true
 }
 
 // A name stands in the list of field i twice. Where two words are the same, or one is no domain's, the names themselves tell.
-fn has_twice(t: &[u8], list: &[u32], n: usize, words: &[u16], starts: &[usize], i: usize) -> bool
-    requires n_in_bounds { (field_size * n ≤ length list.now) × (i < n) }
-    requires t_len_bound { length t.now ≤ text_bytes }
-    requires i_value { well_spaced (field_at t.now list.now i) ≡ true }
-    requires worded_somehow { WordedSomehow t.now list.now n words.now starts.now }
-    ensures { result ≡ repeats_in_list (field_at t.now list.now i) }
+fn has_twice(file: File, words: Words, i: usize) -> bool
+    requires i_in_bounds { i < length file.fields.now }
+    requires small { length file.text.now ≤ text_bytes }
+    requires spaced { well_spaced (field_at file.text.now file.fields.now i) ≡ true }
+    requires worded_somehow { WordedSomehow file.text.now file.fields.now (length file.fields.now) words.words.now words.starts.now }
+    ensures { result ≡ repeats_in_list (field_at file.entry.text.now file.entry.fields.now i) }
 {
-    if list_distinct(list, words, starts, i) {
+    if list_distinct(file, words, i) {
         return false;
     }
-    text_repeats::names_twice(inside(value_of(t, list, i)))
+    text_repeats::names_twice(inside(file.value(file.fields[i])))
 }
 
 // The line of the first list that has a name twice.
-pub fn lists_line(t: &[u8], list: &[u32], n: usize, words: &[u16], starts: &[usize]) -> usize
-    requires sound { Sound t.now list.now n }
-    requires worded_somehow { WordedSomehow t.now list.now n words.now starts.now }
-    ensures { result ≡ first_with repeats_in_list (between t.now list.now 0 n) }
+pub fn lists_line(file: File, words: Words) -> usize
+    requires sound { SoundFile file }
+    requires worded_somehow { WordedSomehow file.text.now file.fields.now (length file.fields.now) words.words.now words.starts.now }
+    ensures { result ≡ first_with repeats_in_list (fields_of file.entry) }
 {
-    if lists_distinct(list, n, words, starts) {
+    if lists_distinct(file, words) {
         return NO_LINE;
     }
-    let mut i: usize = 0;
-    while i < n {
-        if has_twice(t, list, n, words, starts, i) {
-            return line_of(list, i);
+    for i in 0..file.fields.len() {
+        if has_twice(file, words, i) {
+            return file.fields[i].line();
         }
-        i += 1;
     }
     NO_LINE
 }

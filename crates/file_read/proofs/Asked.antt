@@ -9,22 +9,22 @@ use Rattle.paper.specs.Listing.{subject_members}
 use Rattle.paper.specs.Page.{Field}
 use Rattle.paper.specs.Entries.{entries_of}
 use Rattle.paper.specs.Rules.{over_limit, named_twice, identifiers_at, unknown_name, unbound_variable, twin_principal}
-use Rattle.file_fields.specs.Fields.{field_size, between, bytes_to}
+use Rattle.file_fields.specs.Fields.{between, bytes_to}
+use Rattle.file_fields.specs.declared.file.FieldAt.{FieldAt}
 use Rattle.file_fields.specs.Listed.{most_fields}
 use Rattle.file_index.specs.Words.{multiplier_at, names_at, name_size}
 use Rattle.file_index.specs.Maps.{Maps}
 use Rattle.file_index.proofs.Known.{index_cleared}
 use Rattle.file_names.specs.Naming.{Sound}
-use Rattle.file_names.specs.Mapping.{Fresh, Distinct}
-use Rattle.file_names.specs.declared.Names.{Names}
+use Rattle.file_names.specs.Mapping.{Fresh, HasRoom, Distinct}
+use Rattle.file_names.specs.declared.Named.{Named}
 use Rattle.file_table.specs.Ready.{OfObjects, OfSubjects, OfFunctions}
 use Rattle.file_table.proofs.Whole.{entries_few}
 use Rattle.file_read.specs.Readable.{Readable}
 use Rattle.file_read.proofs.Low.{over_low, twice_low, unknown_low, unbound_low, twins_low}
 
-pub sound : (t list : List ℕ) (n : ℕ) → field_size * n ≤ length list → bytes_to list n ≤ length t → length t ≤ text_bytes
-    → Readable (between t list 0 n) → Sound t list n
-sound t list n room fits small fs = record { room = room; spaced = fs.spaced; numbered = fs.numbered; small = small; fits = fits }
+pub sound : (t : List ℕ) (list : List FieldAt) (n : ℕ) → bytes_to list n ≤ length t → length t ≤ text_bytes → Readable (between t list 0 n) → Sound t list n
+sound t list n fits small fs = record { spaced = fs.spaced; numbered = fs.numbered; small = small; fits = fits }
 
 -- an index with no name in it
 module _ (t : List ℕ) where
@@ -41,7 +41,7 @@ module _ (t : List ℕ) where
 half_room : (bytes size room : ℕ) → room ≡ size → bytes ≤ 2 * size → bytes ≤ 2 * room
 half_room bytes size room e h = omega arith
 
-pub words_room : (t list : List ℕ) (n : ℕ) → Sound t list n → bytes_to list n ≤ 2 * length (replicate {A = ℕ} 32768 0)
+pub words_room : (t : List ℕ) (list : List FieldAt) (n : ℕ) → Sound t list n → bytes_to list n ≤ 2 * length (replicate {A = ℕ} 32768 0)
 words_room t list n s = half_room (bytes_to list n) 32768 (length (replicate {A = ℕ} 32768 0)) (length-replicate {A = ℕ} 32768 0) (omega (arith, s.fits, s.small))
 
 pub starts_room : (n m : ℕ) → n ≤ most_fields → n < length (set (replicate 8193 0) multiplier_at m)
@@ -75,21 +75,30 @@ no_over fs over e z = sym e ∙ z
 
 -- ---- 7 names no line
 
-module _ (fs : List Field) (names : Names) (once : names.twice ≡ 0) where
+module _ (fs : List Field) (named : Named) (once : named.twice ≡ 0) where
   module _ (t objectIx subjectIx functionIx : List ℕ)
-      (known : names.twice ≡ 0 → Maps t fs objectIx subjectIx functionIx names.objects names.subjects names.functions) where
-    pub objects_known : (names.twice ≡ 0 → Distinct fs) → OfObjects names.objects fs
-    objects_known apart = record {
+      (known : named.twice ≡ 0 → Maps t fs objectIx subjectIx functionIx named.objects named.subjects named.functions) where
+    pub objects_room : HasRoom objectIx named.objects most_domains
+    objects_room = record { room = (known once).of_objects.room; few = (known once).of_objects.few }
+
+    pub subjects_room : HasRoom subjectIx named.subjects most_domains
+    subjects_room = record { room = (known once).of_subjects.room; few = (known once).of_subjects.few }
+
+    pub functions_room : HasRoom functionIx named.functions most_members
+    functions_room = record { room = (known once).of_functions.room; few = (known once).of_functions.few }
+
+    pub objects_known : (named.twice ≡ 0 → Distinct fs) → (count : ℕ) → count ≡ named.objects → OfObjects count fs
+    objects_known apart count e = rw e (record {
       counted = (known once).of_objects.index.count;
       few = (known once).of_objects.few;
       apart = (apart once).objects;
-    }
+    })
 
-    pub subjects_known : (names.twice ≡ 0 → Distinct fs) → OfSubjects t subjectIx names.subjects fs
-    subjects_known apart = record { index = (known once).of_subjects; apart = (apart once).subjects }
+    pub subjects_known : (named.twice ≡ 0 → Distinct fs) → (ix : List ℕ) (count : ℕ) → ix ≡ subjectIx → count ≡ named.subjects → OfSubjects t ix count fs
+    subjects_known apart ix count d e = rw (d, e) (record { index = (known once).of_subjects; apart = (apart once).subjects })
 
-    pub functions_known : OfFunctions names.functions fs
-    functions_known = record { counted = (known once).of_functions.index.count; few = (known once).of_functions.few }
+    pub functions_known : (count : ℕ) → count ≡ named.functions → OfFunctions count fs
+    functions_known count e = rw e (record { counted = (known once).of_functions.index.count; few = (known once).of_functions.few })
 
 pub functions_few : (functions : ℕ) (fs : List Field) → OfFunctions functions fs → length (identifiers_at subject_members fs) ≤ most_members
 functions_few functions fs known = rw (← known.counted) known.few

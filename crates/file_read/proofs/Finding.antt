@@ -1,11 +1,11 @@
 -- What the walk found of a text, as the reader's answer and as the table's words.
 use mathlib.Core.Path.{◌≡◌, refl, sym, ap, ◌∙◌}
 use mathlib.Core.List.{List, ◌++◌}
-use Prim.Native.Nat.{ℕ, ◌*◌, ◌≤◌}
+use Prim.Native.Nat.{ℕ, ◌≤◌}
 use native.Mathlib.Omega.{arith}
 use mir.Syntax.{w32}
 use mir.Val.{Fits}
-use lib.ListN.{length, take, drop, replicate}
+use lib.ListN.{length, take, drop, replicate, length-take}
 use Rattle.paper.specs.declared.Reading.{Reading}
 use Rattle.paper.specs.declared.Reading.TheVariants.{Accepted, Unread}
 use Rattle.paper.specs.Limits.{text_bytes, table_words}
@@ -13,10 +13,11 @@ use Rattle.paper.specs.Page.{Field, Outcome, fields, fault}
 use Rattle.paper.specs.Rules.{ruled}
 use Rattle.paper.specs.Promises.{text_page, file_of, reading_of, words_read}
 use Rattle.laws_file.proofs.Kept.{no_line_lem}
-use Rattle.file_fields.specs.Fields.{field_size, between}
+use Rattle.std.specs.Prelude.{Result, Ok, Err}
+use Rattle.paper.specs.declared.Fault.{Fault}
+use Rattle.file_fields.specs.Fields.{between}
 use Rattle.file_fields.specs.Listed.{most_fields, found_in, Holds}
-use Rattle.file_fields.specs.declared.Found.{Found}
-use Rattle.file_fields.specs.declared.Found.TheVariants.{Listed, Refused}
+use Rattle.file_fields.specs.declared.file.FieldAt.{FieldAt}
 use Rattle.file_names.specs.Naming.{Sound}
 use Rattle.file_read.specs.Readable.{Readable}
 use Rattle.file_read.specs.Lent.{Left}
@@ -24,53 +25,56 @@ use Rattle.file_read.proofs.Pages.{text_readable, text_short, text_fault_fits}
 use Rattle.file_read.proofs.Asked.{sound}
 use Rattle.file_read.proofs.Ruling.{text_refused, text_zero, text_read, text_words}
 
-module _ (t list : List ℕ) (r : Found) (e : found_in t list r ≡ text_page t) where
-  module _ (k m : ℕ) (q : r ≡ Refused k m) where
-    refusal : fault k m ≡ text_page t
+module _ (t : List ℕ) (list : List FieldAt) (r : Result ℕ Fault) (e : found_in t list r ≡ text_page t) where
+  module _ (f : Fault) (q : r ≡ Err f) where
+    refusal : fault f.number f.line ≡ text_page t
     refusal = rw q at e
 
-    pub file_refused : file_of t ≡ fault k m
+    pub file_refused : file_of t ≡ fault f.number f.line
     unfolding file_of
     file_refused = rw (← refusal) refl
 
-    pub refusal_fits : Fits w32 m
-    refusal_fits = text_fault_fits t k m refusal
+    pub refusal_fits : Fits w32 f.line
+    refusal_fits = text_fault_fits t f.number f.line refusal
 
-    pub refusal_answers : Unread k m ≡ reading_of (file_of t)
-    refusal_answers = text_refused t k m refusal
+    pub refusal_answers : Unread f.number f.line ≡ reading_of (file_of t)
+    refusal_answers = text_refused t f.number f.line refusal
 
     pub refusal_leaves : (table : List ℕ) → take table_words table ≡ replicate table_words 0 → table ≡ words_read (file_of t) ++ drop table_words table
-    refusal_leaves table z = text_zero t k m table refusal z
+    refusal_leaves table z = text_zero t f.number f.line table refusal z
 
-  module _ (n : ℕ) (q : r ≡ Listed n) where
-    listed : fields (between t list 0 n) ≡ text_page t
+  module _ (n : ℕ) (q : r ≡ Ok n) where
+    listed : fields (between t (take n list) 0 (length (take n list))) ≡ text_page t
     listed = rw q at e
 
-    pub file_held : file_of t ≡ ruled (between t list 0 n)
+    pub file_held : file_of t ≡ ruled (between t (take n list) 0 (length (take n list)))
     unfolding file_of
     file_held = rw (← listed) refl
 
-    fields_held : Holds t list r → Holds t list (Listed n)
+    fields_held : Holds t list r → Holds t list (Ok n)
     fields_held h = rw q at h
 
-    pub fields_few : Holds t list r → length list ≡ field_size * most_fields → n ≤ most_fields
-    fields_few h e = omega (arith, (fields_held h).0)
+    pub fields_there : Holds t list r → n ≤ length list
+    fields_there h = (fields_held h).0
+
+    pub fields_few : Holds t list r → length list ≡ most_fields → length (take n list) ≤ most_fields
+    fields_few h e = omega (arith, (fields_held h).0, length-take n list)
 
     fields_short : length t ≤ text_bytes
-    fields_short = text_short t (between t list 0 n) listed
+    fields_short = text_short t (between t (take n list) 0 (length (take n list))) listed
 
-    pub fields_readable : Readable (between t list 0 n)
-    fields_readable = text_readable t (between t list 0 n) listed
+    pub fields_readable : Readable (between t (take n list) 0 (length (take n list)))
+    fields_readable = text_readable t (between t (take n list) 0 (length (take n list))) listed
 
-    pub fields_sound : Holds t list r → Sound t list n
-    fields_sound h = sound t list n (fields_held h).0 (fields_held h).1 fields_short fields_readable
+    pub fields_sound : Holds t list r → Sound t (take n list) (length (take n list))
+    fields_sound h = sound t (take n list) (length (take n list)) (fields_held h).1 fields_short fields_readable
 
-    pub fields_answer : (s : Reading) → s ≡ reading_of (ruled (between t list 0 n)) → s ≡ reading_of (file_of t)
-    fields_answer s f = text_read t (between t list 0 n) s listed f
+    pub fields_answer : (s : Reading) → s ≡ reading_of (ruled (between t (take n list) 0 (length (take n list)))) → s ≡ reading_of (file_of t)
+    fields_answer s f = text_read t (between t (take n list) 0 (length (take n list))) s listed f
 
-    pub fields_leave : (table after : List ℕ) → table_words ≤ length table → Left (ruled (between t list 0 n)) table after
+    pub fields_leave : (table after : List ℕ) → table_words ≤ length table → Left (ruled (between t (take n list) 0 (length (take n list)))) table after
         → after ≡ words_read (file_of t) ++ drop table_words table
-    fields_leave table after h f = text_words t (between t list 0 n) table after listed h f
+    fields_leave table after h f = text_words t (between t (take n list) 0 (length (take n list))) table after listed h f
 
 -- ---- fields held to the rules
 

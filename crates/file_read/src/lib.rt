@@ -6,22 +6,24 @@ ghost use Rattle.paper.specs.declared.Reading.TheVariants.{Unread};
 ghost use Rattle.paper.specs.Limits.{text_bytes, table_words};
 ghost use Rattle.paper.specs.Rules.{ruled};
 ghost use Rattle.paper.specs.Promises.{file_of, reading_of, words_read, read_answer, read_leaves};
-ghost use Rattle.file_fields.specs.Fields.{between};
 ghost use Rattle.file_fields.specs.Listed.{most_fields};
-ghost use Rattle.file_names.specs.Naming.{Sound};
+ghost use Rattle.file_fields.specs.Stretches.{fields_of};
+ghost use Rattle.file_names.specs.Naming.{SoundFile};
 ghost use Rattle.file_read.specs.Readable.{Readable};
 ghost use Rattle.file_read.specs.Ruled.{known_ruled, names_ruled};
 ghost use Rattle.file_read.specs.Numbered.{Numbered};
 ghost use Rattle.file_read.specs.Lent.{Cleared, Left};
 
 use file_entries::{twin_line, unbound_line};
-use file_fields::{Found, list_fields};
+use file_fields::file::{File, NOWHERE};
+use file_fields::{MOST_FIELDS, list_fields};
+use file_index::maps::MapNames;
 use file_index::{MULTIPLIER, layout};
 use file_limits::over_limit;
 use file_names::unknown::unknown_line;
-use file_names::{MEMBERS_SIZE, Names, index_names};
-use file_table::{set_words, write_table};
-use file_words::{STARTS, WORDS};
+use file_names::{MEMBERS_SIZE, index_names, maps_of};
+use file_table::write_table;
+use file_words::{STARTS, WORDS, Words};
 use paper::{Reading, limit, refusal};
 use text_lines::NO_LINE;
 
@@ -39,89 +41,51 @@ fn refused(number: u16, line: usize) -> Reading
 }
 
 // 10 and 11, and then the table, of a file that names nothing unknown. A table that is too short for the words is left as it is.
-fn read_known(
-    t: &[u8],
-    list: &[u32],
-    n: usize,
-    subjects_ix: &[usize],
-    names: Names,
-    words: &[u16],
-    starts: &[usize],
-    table: &mut [u16],
-) -> Reading
-    requires numbered { Numbered t.now list.now n subjects_ix.now names words.now starts.now }
+fn read_known(file: File, maps: MapNames, words: Words, table: &mut [u16]) -> Reading
+    requires numbered { Numbered file maps words }
     requires cleared { Cleared table.old }
-    ensures value { result ≡ reading_of (known_ruled (between t.now list.now 0 n)) }
-    ensures left { Left (known_ruled (between t.now list.now 0 n)) table.old table.new }
+    ensures value { result ≡ reading_of (known_ruled (fields_of file.entry)) }
+    ensures left { Left (known_ruled (fields_of file.entry)) table.old table.new }
 {
-    let unbound = unbound_line(t, list, n);
+    let unbound = unbound_line(file);
     if unbound != NO_LINE {
         return refused(refusal::UNBOUND, unbound);
     }
-    let twin = twin_line(t, list, n);
+    let twin = twin_line(file);
     if twin != NO_LINE {
         return refused(refusal::SAME_PRINCIPAL, twin);
     }
     if table.len() < limit::TABLE_WORDS {
         return Reading::Accepted;
     }
-    write_table(
-        t,
-        list,
-        n,
-        words,
-        starts,
-        names.objects,
-        subjects_ix,
-        names.subjects,
-        names.functions,
-        table,
-    );
+    write_table(file, maps, words, table);
     Reading::Accepted
 }
 
 // 8, and then the rules that are left and the table, of a file whose names are numbered.
-fn read_named(
-    t: &[u8],
-    list: &[u32],
-    n: usize,
-    subjects_ix: &[usize],
-    names: Names,
-    words: &[u16],
-    starts: &[usize],
-    table: &mut [u16],
-) -> Reading
-    requires numbered { Numbered t.now list.now n subjects_ix.now names words.now starts.now }
+fn read_named(file: File, maps: MapNames, words: Words, table: &mut [u16]) -> Reading
+    requires numbered { Numbered file maps words }
     requires cleared { Cleared table.old }
-    ensures value { result ≡ reading_of (names_ruled (between t.now list.now 0 n)) }
-    ensures left { Left (names_ruled (between t.now list.now 0 n)) table.old table.new }
+    ensures value { result ≡ reading_of (names_ruled (fields_of file.entry)) }
+    ensures left { Left (names_ruled (fields_of file.entry)) table.old table.new }
 {
-    let unknown = unknown_line(
-        t,
-        list,
-        n,
-        names.objects,
-        subjects_ix,
-        names.subjects,
-        words,
-        starts,
-    );
+    let unknown = unknown_line(file, maps, words);
     if unknown != NO_LINE {
         return refused(refusal::UNKNOWN, unknown);
     }
-    read_known(t, list, n, subjects_ix, names, words, starts, table)
+    read_known(file, maps, words, table)
 }
 
 // The rules over the whole file, and then the table.
-fn read_fields(t: &[u8], list: &[u32], n: usize, table: &mut [u16]) -> Reading
-    requires sound { Sound t.now list.now n }
-    requires n_le_most_fields { n ≤ most_fields }
-    requires readable { Readable (between t.now list.now 0 n) }
+fn read_fields(file: File, table: &mut [u16]) -> Reading
+    requires sound { SoundFile file }
+    requires few { length file.fields.now ≤ most_fields }
+    requires readable { Readable (fields_of file) }
     requires cleared { Cleared table.old }
-    ensures value { result ≡ reading_of (ruled (between t.now list.now 0 n)) }
-    ensures left { Left (ruled (between t.now list.now 0 n)) table.old table.new }
+    ensures value { result ≡ reading_of (ruled (fields_of file.entry)) }
+    ensures left { Left (ruled (fields_of file.entry)) table.old table.new }
 {
-    let over = over_limit(t, list, n);
+    let over = over_limit(file);
     if over != NO_LINE {
         return refused(refusal::COUNT, over);
     }
@@ -134,32 +98,34 @@ fn read_fields(t: &[u8], list: &[u32], n: usize, table: &mut [u16]) -> Reading
     let mut words = [0u16; WORDS];
     let mut starts = [0usize; STARTS];
     starts[layout::MULTIPLIER_AT] = MULTIPLIER;
-    let names = index_names(
-        t,
-        list,
-        n,
+    let named = index_names(
+        file,
         &mut objects_ix,
         &mut subjects_ix,
         &mut functions_ix,
         &mut words,
         &mut starts,
     );
-    let twice = names.twice;
-    if twice != NO_LINE {
-        return refused(refusal::TWICE, twice);
+    if named.twice != NO_LINE {
+        return refused(refusal::TWICE, named.twice);
     }
-    read_named(t, list, n, &subjects_ix, names, &words, &starts, table)
+    let maps = maps_of(named, &objects_ix, &subjects_ix, &functions_ix);
+    let words = Words {
+        words: &words,
+        starts: &starts,
+    };
+    read_named(file, maps, words, table)
 }
 
 // The rules over the whole file, and no table.
-pub fn rule_fields(t: &[u8], list: &[u32], n: usize) -> Reading
-    requires sound { Sound t.now list.now n }
-    requires n_le_most_fields { n ≤ most_fields }
-    requires readable { Readable (between t.now list.now 0 n) }
-    ensures { result ≡ reading_of (ruled (between t.now list.now 0 n)) }
+pub fn rule_fields(file: File) -> Reading
+    requires sound { SoundFile file }
+    requires few { length file.fields.now ≤ most_fields }
+    requires readable { Readable (fields_of file) }
+    ensures { result ≡ reading_of (ruled (fields_of file.entry)) }
 {
     let mut short = [0u16; 1];
-    read_fields(t, list, n, &mut short)
+    read_fields(file, &mut short)
 }
 
 // A text with a table that has room.
@@ -169,13 +135,19 @@ fn read_text(t: &[u8], table: &mut [u16]) -> Reading
     ensures value { result ≡ reading_of (file_of t.now) }
     ensures table_after { table.new ≡ words_read (file_of t.now) ++ drop table_words table.old }
 {
-    let mut list = [0u32; file_fields::LIST_SIZE];
+    let mut list = [NOWHERE; MOST_FIELDS];
     match list_fields(t, &mut list) {
-        Found::Refused { number, line } => Reading::Unread {
-            number,
-            line: line as u32,
+        Err(fault) => Reading::Unread {
+            number: fault.number,
+            line: fault.line as u32,
         },
-        Found::Listed(n) => read_fields(t, &list, n, table),
+        Ok(n) => {
+            let file = File {
+                text: t,
+                fields: &list[..n],
+            };
+            read_fields(file, table)
+        }
     }
 }
 
@@ -190,6 +162,6 @@ pub fn read(text: &[u8], table: &mut [u16]) -> Reading
             line: refusal::NO_LINE,
         };
     }
-    set_words(&mut table[..limit::TABLE_WORDS], 0);
+    table[..limit::TABLE_WORDS].fill(0);
     read_text(text, table)
 }

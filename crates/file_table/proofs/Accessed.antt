@@ -29,7 +29,8 @@ use Rattle.file_table.specs.Ready.{Ready, Bounded}
 use Rattle.file_table.proofs.Writing.{take_zeros, Written, written_none, written_padded, written_all, written_length, left_zeros, left_room, zeros_length}
 use Rattle.file_fields.proofs.Walking.{Walked, walked}
 use Rattle.file_table.proofs.Fitting.{item_pattern, item_size}
-use Rattle.file_table.proofs.Entered.{entries_first, entries_more, entries_none, total_more, both_counts}
+use Rattle.file_table.proofs.Entered.{total_more, both_counts}
+use Rattle.file_fields.specs.declared.file.FieldAt.{FieldAt}
 
 -- ---- `can_read` or `can_write`
 
@@ -45,7 +46,7 @@ items_counted : (access : ℕ) (entry : List Field) → is "all" (value_at acces
 unfolding descriptors_of
 items_counted access entry e = rw e refl
 
-module _ (access : ℕ) (which : IsAccess access) (t list : List ℕ) (from to : ℕ) (v : List ℕ)
+module _ (access : ℕ) (which : IsAccess access) (t : List ℕ) (list : List FieldAt) (from to : ℕ) (v : List ℕ)
     (e : v ≡ value_or (bytes "all") (bytes "[]") access (between t list from to)) (r : Bool)
     (q : r ≡ is "all" v) where
   said : is "all" (value_at access (between t list from to)) ≡ r
@@ -59,7 +60,7 @@ module _ (access : ℕ) (which : IsAccess access) (t list : List ℕ) (from to :
     items_room h = omega (arith, items_counted access (between t list from to) (said ∙ h))
 
 -- no field at all stands between a number and itself
-module _ (t list : List ℕ) (n : ℕ) (words starts : List ℕ) (ready : Ready t list n words starts) (to : ℕ) (b : to ≤ n) where
+module _ (t : List ℕ) (list : List FieldAt) (n : ℕ) (words starts : List ℕ) (ready : Ready t list n words starts) (to : ℕ) (b : to ≤ n) where
   module _ (access : ℕ) (which : IsAccess access) where
     pub none_short : length (elements (value_at (call_context_in (object_context_in access)) (between t list to to))) ≤ most_elements
     none_short = item_pattern t list n words starts ready to to (omega arith) b access which
@@ -101,7 +102,7 @@ module _ (t list : List ℕ) (n : ℕ) (words starts : List ℕ) (ready : Ready 
 
 -- ---- both of an entry
 
-module _ (t list : List ℕ) (n from to : ℕ) (old : List ℕ) (enough : descriptor_size * descriptors_in (between t list from to) ≤ length old) where
+module _ (t : List ℕ) (list : List FieldAt) (n from to : ℕ) (old : List ℕ) (enough : descriptor_size * descriptors_in (between t list from to) ≤ length old) where
   pub reads_room : descriptor_size * descriptors_of can_read (between t list from to) ≤ length old
   reads_room = omega (arith, both_counts (between t list from to))
 
@@ -174,65 +175,50 @@ total_none : total descriptors_in [] ≡ 0
 unfolding total
 total_none = refl
 
-pub record DescriptorsWritten (t list : List ℕ) (n from d : ℕ) (out : List ℕ) : Type 0 where
-  pub walk : Walked list principal from n
-  pub count : d + total descriptors_in (entries_of (between t list from n)) ≡ total descriptors_in (entries_of (between t list 0 n))
-  pub done : Written descriptors_size (descriptor_size * d) (descriptor_blocks (between t list 0 n) (entries_of (between t list 0 n)))
-      (descriptor_blocks (between t list 0 n) (entries_of (between t list from n))) out
+pub record DescriptorsWritten (file : List Field) (left : List (List Field)) (d : ℕ) (out : List ℕ) : Type 0 where
+  pub count : d + total descriptors_in left ≡ total descriptors_in (entries_of file)
+  pub done : Written descriptors_size (descriptor_size * d) (descriptor_blocks file (entries_of file)) (descriptor_blocks file left) out
 
-pub descriptors_begin : (t list : List ℕ) (n from : ℕ) (out : List ℕ) → from ≡ next_at list principal 0 (n - 0) → out ≡ replicate descriptors_size 0 → DescriptorsWritten t list n from 0 out
-descriptors_begin t list n from out e z =
-    let same : entries_of (between t list 0 n) ≡ entries_of (between t list from n) = entries_first t list n from e in
-    record {
-      walk = walked list principal 0 n from (omega arith) e;
-      count = rw (← same) (omega arith);
-      done = rw (← same) (written_none descriptors_size (descriptor_blocks (between t list 0 n) (entries_of (between t list 0 n))) out z);
-    }
+pub descriptors_begin : (file : List Field) (left : List (List Field)) (out : List ℕ) → left ≡ entries_of file → out ≡ replicate descriptors_size 0 → DescriptorsWritten file left 0 out
+descriptors_begin file left out same z =
+    record { count = rw same (omega arith); done = rw same (written_none descriptors_size (descriptor_blocks file (entries_of file)) out z) }
 
-module _ (t list : List ℕ) (n from d : ℕ) (out : List ℕ) (w : DescriptorsWritten t list n from d out) where
+module _ (file : List Field) (left : List (List Field)) (d : ℕ) (out : List ℕ) (w : DescriptorsWritten file left d out) where
   pub descriptors_start : descriptor_size * d ≤ length out
   descriptors_start = omega (arith, w.done.within, w.done.long)
 
   pub descriptors_unwritten : take (length out - descriptor_size * d) (drop (descriptor_size * d) out) ≡ replicate (length (take (length out - descriptor_size * d) (drop (descriptor_size * d) out))) 0
   descriptors_unwritten = left_zeros w.done
 
-  module _ (few : Bounded (between t list 0 n)) (h : from < n) (to : ℕ) (e : to ≡ next_at list principal (from + 1) (n - (from + 1))) where
-    count_here : d + (descriptors_in (between t list from to) + total descriptors_in (entries_of (between t list to n))) ≡ total descriptors_in (entries_of (between t list 0 n))
-    count_here = rw (← total_more (between t list from to) (entries_of (between t list to n)), ← entries_more t list n from to w.walk h e) w.count
+  module _ (few : Bounded file) (e : List Field) (rest : List (List Field)) (more : left ≡ e ∷ rest) where
+    count_here : d + (descriptors_in e + total descriptors_in rest) ≡ total descriptors_in (entries_of file)
+    count_here = rw (← total_more e rest, ← more) w.count
 
-    own_room : descriptor_size * d + descriptor_size * descriptors_in (between t list from to) ≤ descriptors_size
+    own_room : descriptor_size * d + descriptor_size * descriptors_in e ≤ descriptors_size
     own_room = omega (arith, count_here, few.descriptors)
 
-    pub descriptors_room : descriptor_size * descriptors_in (between t list from to) ≤ length (take (length out - descriptor_size * d) (drop (descriptor_size * d) out))
-    descriptors_room = left_room w.done (descriptor_size * descriptors_in (between t list from to)) own_room
+    pub descriptors_room : descriptor_size * descriptors_in e ≤ length (take (length out - descriptor_size * d) (drop (descriptor_size * d) out))
+    descriptors_room = left_room w.done (descriptor_size * descriptors_in e) own_room
 
-    module _ (y : List ℕ) (more : ℕ)
-        (f : Filled descriptor_size (descriptors_in (between t list from to)) (own_blocks (between t list 0 n) (between t list from to))
-        (take (length out - descriptor_size * d) (drop (descriptor_size * d) out)) y more) where
-      pub descriptors_number_fits : Fits w64 (d + more)
+    module _ (y : List ℕ) (r : ℕ) (f : Filled descriptor_size (descriptors_in e) (own_blocks file e) (take (length out - descriptor_size * d) (drop (descriptor_size * d) out)) y r) where
+      pub descriptors_number_fits : Fits w64 (d + r)
       descriptors_number_fits = omega (arith, own_room, f.counted)
 
-      pub descriptors_again : DescriptorsWritten t list n to (d + more) (take (descriptor_size * d) out ++ (y ++ drop (length out - descriptor_size * d) (drop (descriptor_size * d) out)))
+      pub descriptors_again : DescriptorsWritten file rest (d + r) (take (descriptor_size * d) out ++ (y ++ drop (length out - descriptor_size * d) (drop (descriptor_size * d) out)))
       descriptors_again =
-          let rest : descriptor_blocks (between t list 0 n) (entries_of (between t list from n)) ≡ own_blocks (between t list 0 n)
-          (between t list from to) ++ descriptor_blocks (between t list 0 n) (entries_of (between t list to n)) =
-          rw (entries_more t list n from to w.walk h e, blocks_more) refl in
-          let at : descriptor_size * (d + more) ≡ descriptor_size * d + length (own_blocks (between t list 0 n) (between t list from to)) = omega (arith, f.long) in
+          let behind : descriptor_blocks file left ≡ own_blocks file e ++ descriptor_blocks file rest = rw (more, blocks_more) refl in
+          let at : descriptor_size * (d + r) ≡ descriptor_size * d + length (own_blocks file e) = omega (arith, f.long) in
           record {
-            walk = walked list principal (from + 1) n to (omega arith) e;
             count = omega (arith, count_here, f.counted);
-            done = rw at (written_padded w.done y (own_blocks (between t list 0 n) (between t list from to))
-                (descriptor_blocks (between t list 0 n) (entries_of (between t list to n))) rest f.holds
-                (omega (arith, own_room, f.long, f.counted)));
+            done = rw at (written_padded w.done y (own_blocks file e) (descriptor_blocks file rest) behind f.holds (omega (arith, own_room, f.long, f.counted)));
           }
 
   pub descriptors_length : (old : List ℕ) → old ≡ replicate descriptors_size 0 → length out ≡ length old
   descriptors_length old e = zeros_length descriptors_size old out e w.done.long
 
-  pub descriptors_all : (old : List ℕ) → old ≡ replicate descriptors_size 0 → n ≤ from
-      → Filled descriptor_size (total descriptors_in (entries_of (between t list 0 n))) (descriptor_blocks (between t list 0 n) (entries_of (between t list 0 n))) old out d
-  descriptors_all old z h =
-      let none : entries_of (between t list from n) ≡ [] = entries_none t list n from h in
-      let left : descriptor_blocks (between t list 0 n) (entries_of (between t list from n)) ≡ [] = rw none (blocks_none (between t list 0 n)) in
+  pub descriptors_all : (old : List ℕ) → old ≡ replicate descriptors_size 0 → left ≡ []
+      → Filled descriptor_size (total descriptors_in (entries_of file)) (descriptor_blocks file (entries_of file)) old out d
+  descriptors_all old z none =
+      let behind : descriptor_blocks file left ≡ [] = rw none (blocks_none file) in
       let l : length old ≡ descriptors_size = rw z (length-replicate {A = ℕ} descriptors_size 0) in
-      record { counted = omega (arith, ap (total descriptors_in) none, total_none, w.count); long = written_length w.done left; holds = rw l (written_all w.done left) }
+      record { counted = omega (arith, ap (total descriptors_in) none, total_none, w.count); long = written_length w.done behind; holds = rw l (written_all w.done behind) }

@@ -23,10 +23,11 @@ use Rattle.laws_file.proofs.Stretched.{value_holds}
 use Rattle.file_fields.specs.Places.{IsAccess}
 use Rattle.file_fields.specs.Fields.{field_at, between}
 use Rattle.file_table.specs.Ready.{fits, Ready}
+use Rattle.file_fields.specs.declared.file.FieldAt.{FieldAt}
 
 -- ---- the fields between two numbers
 
-between_all : (test : Field → Bool) (t list : List ℕ) (n i j : ℕ) → all_of test (between t list 0 n) ≡ true → i ≤ j → j ≤ n → all_of test (between t list i j) ≡ true
+between_all : (test : Field → Bool) (t : List ℕ) (list : List FieldAt) (n i j : ℕ) → all_of test (between t list 0 n) ≡ true → i ≤ j → j ≤ n → all_of test (between t list i j) ≡ true
 unfolding between
 between_all test t list n i j h a b =
     counted_all_of (field_at t list) test i (j - i) (λ m p q. all_of_counted (field_at t list) test 0 (n - 0) h m (omega arith) (omega arith))
@@ -78,7 +79,7 @@ writing = inr refl
 
 -- ---- of a file that is ready
 
-module _ (t list : List ℕ) (n : ℕ) (words starts : List ℕ) (ready : Ready t list n words starts) (i j : ℕ) (a : i ≤ j) (b : j ≤ n) where
+module _ (t : List ℕ) (list : List FieldAt) (n : ℕ) (words starts : List ℕ) (ready : Ready t list n words starts) (i j : ℕ) (a : i ≤ j) (b : j ≤ n) where
   stretch_fits : all_of fits (between t list i j) ≡ true
   stretch_fits = between_all fits t list n i j ready.fit a b
 

@@ -6,3 +6,4 @@ pub mod Described
 pub mod Accessed
 pub mod Laying
 pub mod Whole
+pub mod Stepping

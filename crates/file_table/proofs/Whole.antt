@@ -22,13 +22,14 @@ use Rattle.laws_file.specs.Accepted.{total}
 use Rattle.laws_file.proofs.Stretched.{stretches_counted}
 use Rattle.laws_file.proofs.Members.{members_length, members_counted}
 use Rattle.laws_file.proofs.Kept.{Counted, counted}
-use Rattle.file_fields.specs.Fields.{field_size, between, maps_end}
+use Rattle.file_fields.specs.Fields.{between, maps_end}
 use Rattle.file_fields.proofs.Maps.{maps_within, fields_in_maps}
 use Rattle.file_words.specs.Words.{numbers_of, Worded}
 use Rattle.file_table.specs.Blocks.{entry_blocks, access_blocks, own_blocks, descriptor_blocks, maps_size, map_blocks, privileges_size, privilege_blocks, Filled}
 use Rattle.file_table.specs.Ready.{fits, Ready, OfObjects, OfSubjects, OfFunctions, Bounded}
 use Rattle.file_table.proofs.Writing.{take_zeros}
 use Rattle.file_table.proofs.Laying.{Laid, laid_first, laid_zeros, laid_more, laid_all, front_zeros, front_laid}
+use Rattle.file_fields.specs.declared.file.FieldAt.{FieldAt}
 
 -- ---- what the rule of limits leaves
 
@@ -51,10 +52,10 @@ module _ (file : List Field) (numbered : all_of is_numbered file ≡ true) (limi
   file_fits = within_limits.patterns
 
 -- its fields fit where none is too long, and the words of their names are given
-module _ (t list : List ℕ) (n : ℕ) (words starts : List ℕ) (listed : field_size * n ≤ length list)
+module _ (t : List ℕ) (list : List FieldAt) (n : ℕ) (words starts : List ℕ)
     (numbered : all_of is_numbered (between t list 0 n) ≡ true) (limits : over_limit (between t list 0 n) ≡ no_line) where
   pub file_ready : Worded (numbers_of (between t list 0 n)) t list n words starts → Ready t list n words starts
-  file_ready worded = record { listed = listed; fit = file_fits (between t list 0 n) numbered limits; worded = worded }
+  file_ready worded = record { fit = file_fits (between t list 0 n) numbered limits; worded = worded }
 
 -- ---- the words of its policy
 
@@ -168,7 +169,7 @@ module _ (file : List Field) (numbered : all_of is_numbered file ≡ true) (limi
 -- ---- the objects and the functions; the entries and the descriptors
 
 -- the members that the maps have are all of them
-module _ (t list : List ℕ) (n end : ℕ) (q : end ≡ maps_end list n) where
+module _ (t : List ℕ) (list : List FieldAt) (n end : ℕ) (q : end ≡ maps_end list n) where
   members_in_maps : (place : ℕ) → place < principal → member_domains 0 (fields_at place (between t list 0 end)) ≡ member_domains 0 (fields_at place (between t list 0 n))
   members_in_maps place l = ap (member_domains 0) (fields_in_maps t list n end place q l)
 
@@ -191,7 +192,7 @@ module _ (out : List ℕ) (l : length out ≡ maps_size) (z : out ≡ replicate 
   pub objects_unwritten : take most_members (drop 0 out) ≡ replicate most_members 0
   objects_unwritten = rw maps_out (take_zeros most_members (most_members + most_members) (omega arith))
 
-  module _ (t list : List ℕ) (n end : ℕ) (q : end ≡ maps_end list n) (y₁ : List ℕ) (e₁ : y₁ ≡ padded most_members (object_words (between t list 0 end)))
+  module _ (t : List ℕ) (list : List FieldAt) (n end : ℕ) (q : end ≡ maps_end list n) (y₁ : List ℕ) (e₁ : y₁ ≡ padded most_members (object_words (between t list 0 end)))
       (few : length (object_words (between t list 0 n)) ≤ most_members) where
     objects_laid : y₁ ≡ padded most_members (object_words (between t list 0 n))
     objects_laid = e₁ ∙ rw (members_in_maps t list n end q object_members (omega arith)) refl

@@ -5,14 +5,15 @@ use Prim.Native.Nat.{ℕ, ◌+◌, ◌<◌, ◌≤◌}
 use native.Mathlib.Omega.{arith}
 use mir.Syntax.{w32}
 use mir.Val.{Fits}
-use lib.ListN.{length, set, length-set}
+use lib.ListN.{length, get_or, set, length-set}
 use borrow.Author.Tests.{eq-eqb, ne_eqb, leb-true}
 use Rattle.paper.specs.Common.{all_of}
 use Rattle.paper.specs.Limits.{text_bytes}
 use Rattle.paper.specs.Page.{Field}
 use Rattle.laws.proofs.Tests.{both_left, both_right}
-use Rattle.file_fields.specs.Fields.{place_in, line_in, start_in, value_in, field_at}
-use Rattle.file_fields.proofs.Between.{between_more, between_none}
+use Rattle.file_fields.specs.Fields.{nowhere_at, value_of, field_of, field_at}
+use Rattle.file_fields.specs.declared.file.FieldAt.{FieldAt}
+use Rattle.file_fields.proofs.Between.{field_read, between_more, between_none}
 use Rattle.filled_lines.specs.Wrote.{Wrote}
 use Rattle.file_things.specs.declared.Naming.{Naming}
 use Rattle.file_things.specs.declared.Naming.TheVariants.{One, Each, Entry, Nothing}
@@ -112,73 +113,72 @@ module _ (kind line start size : ℕ) (out : List ℕ) (asked : Writable (thing 
 
 -- ---- a name
 
-module _ (t list : List ℕ) (kind i j line start : ℕ) (v out : List ℕ)
-    (a : line ≡ line_in list i) (b : start ≡ start_in list j) (d : v ≡ value_in t list j) where
-  name_is : name_thing kind (field_at t list i) (field_at t list j) ≡ thing kind line start (length v)
-  unfolding name_thing field_at
+module _ (t : List ℕ) (f g : FieldAt) (kind line start : ℕ) (v out : List ℕ) (a : line ≡ f.line) (b : start ≡ g.start) (d : v ≡ value_of t g) where
+  name_is : name_thing kind (field_of t f) (field_of t g) ≡ thing kind line start (length v)
+  unfolding name_thing field_of
   name_is = rw (a, b, d) refl
 
-  pub name_asked : Writable (name_thing kind (field_at t list i) (field_at t list j)) out → Writable (thing kind line start (length v)) out
+  pub name_asked : Writable (name_thing kind (field_of t f) (field_of t g)) out → Writable (thing kind line start (length v)) out
   name_asked h = rw name_is at h
 
   pub name_put : (after : List ℕ) (r : ℕ) → Wrote (thing kind line start (length v)) out after r
-      → Wrote (name_thing kind (field_at t list i) (field_at t list j)) out after r
+      → Wrote (name_thing kind (field_of t f) (field_of t g)) out after r
   name_put after r w = rw name_is w
 
 -- ---- an entry
 
-module _ (t list : List ℕ) (i n : ℕ) (out : List ℕ) where
-  module _ (h : i + 1 < n) where
-    behind_some : behind_in t list i n ≡ field_at t list (i + 1)
-    behind_some = rw (between_more t list (i + 1) n h) refl
+module _ (t : List ℕ) (list : List FieldAt) (i : ℕ) (out : List ℕ) where
+  module _ (l : i + 1 < length list) (g : FieldAt) (e : g ≡ get_or list (i + 1) g) where
+    behind_some : behind_in t list i (length list) ≡ field_of t g
+    behind_some = rw (between_more t list (i + 1) (length list) l, field_read t list (i + 1) g l e) refl
 
-    pub entry_asked : Writable (name_thing 5 (field_at t list i) (behind_in t list i n)) out → Writable (name_thing 5 (field_at t list i) (field_at t list (i + 1))) out
+    pub entry_asked : Writable (name_thing 5 (field_at t list i) (behind_in t list i (length list))) out → Writable (name_thing 5 (field_at t list i) (field_of t g)) out
     entry_asked a = rw behind_some at a
 
-    pub entry_put : (after : List ℕ) (r : ℕ) → Wrote (name_thing 5 (field_at t list i) (field_at t list (i + 1))) out after r
-        → Wrote (name_thing 5 (field_at t list i) (behind_in t list i n)) out after r
+    pub entry_put : (after : List ℕ) (r : ℕ) → Wrote (name_thing 5 (field_at t list i) (field_of t g)) out after r
+        → Wrote (name_thing 5 (field_at t list i) (behind_in t list i (length list))) out after r
     entry_put after r w = rw behind_some w
 
-  module _ (h : n ≤ i + 1) (line : ℕ) (e : line ≡ line_in list i) where
-    nameless_is : name_thing 5 (field_at t list i) (behind_in t list i n) ≡ thing 5 line 0 0
-    unfolding name_thing field_at
-    nameless_is = rw (between_none t list (i + 1) n h, e) refl
+  module _ (l : length list ≤ i + 1) (line : ℕ) (e : line ≡ (get_or list i nowhere_at).line) where
+    nameless_is : name_thing 5 (field_at t list i) (behind_in t list i (length list)) ≡ thing 5 line 0 0
+    unfolding name_thing field_of
+    nameless_is = rw (between_none t list (i + 1) (length list) l, e) refl
 
-    pub nameless_asked : Writable (name_thing 5 (field_at t list i) (behind_in t list i n)) out → Writable (thing 5 line 0 0) out
+    pub nameless_asked : Writable (name_thing 5 (field_at t list i) (behind_in t list i (length list))) out → Writable (thing 5 line 0 0) out
     nameless_asked a = rw nameless_is at a
 
     pub nameless_put : (after : List ℕ) (r : ℕ) → Wrote (thing 5 line 0 0) out after r
-        → Wrote (name_thing 5 (field_at t list i) (behind_in t list i n)) out after r
+        → Wrote (name_thing 5 (field_at t list i) (behind_in t list i (length list))) out after r
     nameless_put after r w = rw nameless_is w
 
 -- ---- what a field names
 
-module _ (t list : List ℕ) (i p : ℕ) (e : p ≡ place_in list i) (r : Naming) (q : r ≡ naming_at p) (f : Field) (out : List ℕ) where
-  named_as : (x : Naming) → r ≡ x → things_in (field_at t list i) f ≡ things_as x (field_at t list i) f
-  unfolding things_in field_at
+module _ (t : List ℕ) (f : FieldAt) (p : ℕ) (e : p ≡ f.place) (r : Naming) (q : r ≡ naming_at p) (g : Field) (out : List ℕ) where
+  named_as : (x : Naming) → r ≡ x → things_in (field_of t f) g ≡ things_as x (field_of t f) g
+  unfolding things_in field_of
   named_as x h = rw (← e, ← q, h) refl
 
   module _ (kind : ℕ) where
-    pub one_asked : r ≡ One kind → Writable (things_in (field_at t list i) f) out → Writable (name_thing kind (field_at t list i) (field_at t list i)) out
+    pub one_asked : r ≡ One kind → Writable (things_in (field_of t f) g) out → Writable (name_thing kind (field_of t f) (field_of t f)) out
     one_asked h a = rw (named_as (One kind) h) at a
 
-    pub one_put : r ≡ One kind → (after : List ℕ) (k : ℕ) → Wrote (name_thing kind (field_at t list i) (field_at t list i)) out after k
-        → Wrote (things_in (field_at t list i) f) out after k
+    pub one_put : r ≡ One kind → (after : List ℕ) (k : ℕ) → Wrote (name_thing kind (field_of t f) (field_of t f)) out after k
+        → Wrote (things_in (field_of t f) g) out after k
     one_put h after k w = rw (named_as (One kind) h) w
 
-    pub each_asked : r ≡ Each kind → Writable (things_in (field_at t list i) f) out → Writable (each_thing kind (field_at t list i)) out
+    pub each_asked : r ≡ Each kind → Writable (things_in (field_of t f) g) out → Writable (each_thing kind (field_of t f)) out
     each_asked h a = rw (named_as (Each kind) h) at a
 
-    pub each_put : r ≡ Each kind → (after : List ℕ) (k : ℕ) → Wrote (each_thing kind (field_at t list i)) out after k
-        → Wrote (things_in (field_at t list i) f) out after k
+    pub each_put : r ≡ Each kind → (after : List ℕ) (k : ℕ) → Wrote (each_thing kind (field_of t f)) out after k
+        → Wrote (things_in (field_of t f) g) out after k
     each_put h after k w = rw (named_as (Each kind) h) w
 
-  pub an_entry_asked : r ≡ Entry → Writable (things_in (field_at t list i) f) out → Writable (name_thing 5 (field_at t list i) f) out
+  pub an_entry_asked : r ≡ Entry → Writable (things_in (field_of t f) g) out → Writable (name_thing 5 (field_of t f) g) out
   an_entry_asked h a = rw (named_as Entry h) at a
 
-  pub an_entry_put : r ≡ Entry → (after : List ℕ) (k : ℕ) → Wrote (name_thing 5 (field_at t list i) f) out after k
-      → Wrote (things_in (field_at t list i) f) out after k
+  pub an_entry_put : r ≡ Entry → (after : List ℕ) (k : ℕ) → Wrote (name_thing 5 (field_of t f) g) out after k
+      → Wrote (things_in (field_of t f) g) out after k
   an_entry_put h after k w = rw (named_as Entry h) w
 
-  pub nothing_put : r ≡ Nothing → Wrote (things_in (field_at t list i) f) out out 0
+  pub nothing_put : r ≡ Nothing → Wrote (things_in (field_of t f) g) out out 0
   nothing_put h = rw (named_as Nothing h) (record { room = omega arith; far = refl; left = refl })

@@ -6,12 +6,13 @@ use Prim.Native.Nat.{ℕ, ◌+◌, ◌*◌, ◌<◌, ◌≤◌}
 use native.Mathlib.Omega.{arith}
 use mir.Syntax.{w64}
 use mir.Val.{Fits}
-use lib.ListN.{length, get_or, length-append}
+use lib.ListN.{length, get_or, length-append, length-take, length-drop}
 use Rattle.paper.specs.Limits.{text_bytes}
 use Rattle.paper.specs.Lists.{elements}
 use Rattle.paper.specs.Page.{Field, no_field}
-use Rattle.file_fields.specs.Fields.{place_in, value_in, field_at, between}
-use Rattle.file_fields.proofs.Between.{between_more, between_none, value_short}
+use Rattle.file_fields.specs.Fields.{value_of, field_of, field_at, between}
+use Rattle.file_fields.specs.declared.file.FieldAt.{FieldAt}
+use Rattle.file_fields.proofs.Between.{between_more, between_none}
 use Rattle.file_things.specs.declared.Naming.{Naming}
 use Rattle.file_things.specs.declared.Naming.TheVariants.{One, Each, Entry, Nothing}
 use Rattle.file_things.specs.Things.{thing_size, thing, name_thing, element_things, each_thing, naming_at, things_as, things_in, things_of, count_as, thing_count}
@@ -23,28 +24,28 @@ by_tests u v w x y = cond u (One 1) (cond v (Each 2) (cond w (One 3) (cond x (Ea
 
 -- ---- a field
 
-module _ (t list : List ℕ) (i p : ℕ) (e : p ≡ place_in list i) (r : Naming) (q : r ≡ naming_at p) where
-  counted_as : (x : Naming) → r ≡ x → thing_count (field_at t list i) ≡ count_as x (field_at t list i)
-  unfolding thing_count field_at
+module _ (t : List ℕ) (f : FieldAt) (p : ℕ) (e : p ≡ f.place) (r : Naming) (q : r ≡ naming_at p) where
+  counted_as : (x : Naming) → r ≡ x → thing_count (field_of t f) ≡ count_as x (field_of t f)
+  unfolding thing_count field_of
   counted_as x h = rw (← e, ← q, h) refl
 
-  pub one_words : (kind : ℕ) → r ≡ One kind → 4 ≡ thing_size * thing_count (field_at t list i)
+  pub one_words : (kind : ℕ) → r ≡ One kind → 4 ≡ thing_size * thing_count (field_of t f)
   one_words kind h = rw (counted_as (One kind) h) refl
 
-  pub entry_words_lem : r ≡ Entry → 4 ≡ thing_size * thing_count (field_at t list i)
+  pub entry_words_lem : r ≡ Entry → 4 ≡ thing_size * thing_count (field_of t f)
   entry_words_lem h = rw (counted_as Entry h) refl
 
-  pub nothing_words : r ≡ Nothing → 0 ≡ thing_size * thing_count (field_at t list i)
+  pub nothing_words : r ≡ Nothing → 0 ≡ thing_size * thing_count (field_of t f)
   nothing_words h = rw (counted_as Nothing h) refl
 
-  pub each_words : (kind : ℕ) → r ≡ Each kind → (v : List ℕ) (k : ℕ) → v ≡ value_in t list i → k ≡ length (elements v)
-      → thing_size * k ≡ thing_size * thing_count (field_at t list i)
-  unfolding field_at
+  pub each_words : (kind : ℕ) → r ≡ Each kind → (v : List ℕ) (k : ℕ) → v ≡ value_of t f → k ≡ length (elements v)
+      → thing_size * k ≡ thing_size * thing_count (field_of t f)
+  unfolding field_of
   each_words kind h v k a b = rw (counted_as (Each kind) h, b, a) refl
 
-module _ (t list v : List ℕ) (i k : ℕ) (a : v ≡ value_in t list i) (b : k ≤ length v + 1) (l : length t ≤ text_bytes) where
+module _ (t v : List ℕ) (f : FieldAt) (k : ℕ) (a : v ≡ value_of t f) (b : k ≤ length v + 1) (l : length t ≤ text_bytes) where
   few : k ≤ text_bytes + 1
-  few = let s : length v ≤ length t = rw a (value_short t list i) in omega arith
+  few = let s : length v ≤ length t = rw (a, length-take) (omega (arith, length-drop f.start t)) in omega arith
 
   pub each_most : thing_size * k ≤ most_words
   each_most = omega (arith, few)
@@ -73,7 +74,7 @@ pub file_long : (f : Field) (fs : List Field) → length (things_of (f ∷ fs)) 
 unfolding things_of
 file_long f fs = length-append (things_in f (get_or fs 0 no_field)) (things_of fs) ∙ rw (field_long f (get_or fs 0 no_field)) refl
 
-module _ (t list : List ℕ) (n i words whole : ℕ) (s : words + length (things_of (between t list i n)) ≡ whole) where
+module _ (t : List ℕ) (list : List FieldAt) (n i words whole : ℕ) (s : words + length (things_of (between t list i n)) ≡ whole) where
   pub words_more : (r : ℕ) → i < n → r ≡ thing_size * thing_count (field_at t list i) → words + r + length (things_of (between t list (i + 1) n)) ≡ whole
   words_more r h f =
       let more : length (things_of (between t list i n)) ≡ r + length (things_of (between t list (i + 1) n)) =

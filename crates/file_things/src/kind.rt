@@ -1,4 +1,4 @@
-// The kinds of things that a text names, as the list has them.
+// The kinds of things that a text names: numbers, since they stand in the list that a caller in C gets.
 pub const OBJECT_DOMAIN: u32 = 1;
 
 pub const OBJECT: u32 = 2;

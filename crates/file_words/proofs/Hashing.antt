@@ -13,7 +13,7 @@ use Rattle.laws.proofs.Bytes.{find_here, find_ends}
 use Rattle.laws.proofs.Pieces.{piece_length}
 use Rattle.text_lists.proofs.Walk.{none_found, next_fits, element_found}
 use Rattle.file_index.specs.Buckets.{multipliers, hashes, hash_from, hash_of}
-use Rattle.file_words.specs.declared.Hashed.TheVariants.{Found, NoneLeft}
+use Rattle.std.specs.Prelude.{Some, None}
 use Rattle.file_words.specs.Hashed.{hashed_at}
 
 -- what stands before the comma, from a place on
@@ -21,12 +21,12 @@ abbrev pub element : List ℕ → ℕ → List ℕ
 element s at = take (before comma (drop at s)) (drop at s)
 
 module _ (m : ℕ) (s : List ℕ) (at : ℕ) where
-  pub hashed_none : length s < at → NoneLeft ≡ hashed_at m s at
+  pub hashed_none : length s < at → None ≡ hashed_at m s at
   unfolding hashed_at
   hashed_none h = rw (← none_found s at h) refl
 
   module _ (within : at ≤ length s) where
-    hashed_found : (e h : ℕ) → e ≡ at + before comma (drop at s) → h ≡ hash_of m (element s at) → Found e (e + 2) h ≡ hashed_at m s at
+    hashed_found : (e h : ℕ) → e ≡ at + before comma (drop at s) → h ≡ hash_of m (element s at) → Some (record { end = e; next = e + 2; hash = h }) ≡ hashed_at m s at
     unfolding hashed_at
     hashed_found e h f g = rw (← element_found s at e f within, piece_length comma s at e f, ← g) refl
 
@@ -39,7 +39,7 @@ module _ (m : ℕ) (s : List ℕ) (at : ℕ) where
       unfolding hash_from before
       hash_last l = rw (drop_of_length-le s l) at hashed
 
-      pub hashed_here : i < length s → get_or s i 0 ≡ comma → Found i (i + 2) h ≡ hashed_at m s at
+      pub hashed_here : i < length s → get_or s i 0 ≡ comma → Some (record { end = i; next = i + 2; hash = h }) ≡ hashed_at m s at
       hashed_here l e = hashed_found i h (find_here comma s at i inv l e) (hash_here l e)
 
       pub hashed_on : i < length s → (get_or s i 0 ≡ comma → ⊥)
@@ -47,7 +47,7 @@ module _ (m : ℕ) (s : List ℕ) (at : ℕ) where
       unfolding hash_from before
       hashed_on l e = rw (← hashed, drop_more s i l, ne_eqb _ _ e)
 
-      pub hashed_last : length s ≤ i → Found i (i + 2) h ≡ hashed_at m s at
+      pub hashed_last : length s ≤ i → Some (record { end = i; next = i + 2; hash = h }) ≡ hashed_at m s at
       hashed_last l = hashed_found i h (find_ends comma s at i inv l) (hash_last l)
 
       pub last_fits : length s ≤ i → length s * 1 < 2 ^ 63 → Fits w64 (i + 2)

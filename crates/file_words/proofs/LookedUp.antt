@@ -12,7 +12,7 @@ use lib.ListN.{length, take, drop, set, length-append, length-map, length-take, 
 use lib.Seq.{get_or-set_same, get_or-set_other, take_at}
 use borrow.Rule.Slice.PartMut.{put_mid, same_len_mid}
 use Rattle.paper.specs.Common.{all_of}
-use Rattle.file_fields.specs.Fields.{start_in, end_in, value_in, field_at, between, bytes_to, list_spaced, well_spaced}
+use Rattle.file_fields.specs.Fields.{field_of, start_in, end_in, value_in, field_at, between, bytes_to, list_spaced, well_spaced}
 use Rattle.file_fields.proofs.Between.{each_field, names_more, names_none}
 use Rattle.file_fields.proofs.Laws.{bytes_more, bytes_fewer}
 use Rattle.file_fields.proofs.Valued.{elements_short}
@@ -20,6 +20,7 @@ use Rattle.file_words.specs.declared.places.Sought.{Sought}
 use Rattle.file_words.specs.declared.places.Sought.TheVariants.{Subject, Subjects, Objects, Elements, Nothing}
 use Rattle.file_words.specs.Looking.{sought_at}
 use Rattle.file_words.specs.Words.{Numbers, words_by, field_words, words_to, Worded}
+use Rattle.file_fields.specs.declared.file.FieldAt.{FieldAt}
 
 regrouped : (ws xs ys zs : List ℕ) → ws ++ (xs ++ ys ++ zs) ≡ ws ++ xs ++ (ys ++ zs)
 regrouped ws xs ys zs = ap (λ (l : List ℕ). ws ++ l) (append_assoc xs ys zs) ∙ sym (append_assoc ws xs (ys ++ zs))
@@ -33,7 +34,7 @@ module _ (starts first : List ℕ) (long : length starts ≡ length (set first 0
   pub start_room : (i n : ℕ) → i < n → n < length first → i + 1 < length starts
   start_room i n h l = omega (arith, starts_long)
 
-pub field_spaced : (t list : List ℕ) (n i : ℕ) → all_of well_spaced (between t list 0 n) ≡ true → i < n → well_spaced (field_at t list i) ≡ true
+pub field_spaced : (t : List ℕ) (list : List FieldAt) (n i : ℕ) → all_of well_spaced (between t list 0 n) ≡ true → i < n → well_spaced (field_at t list i) ≡ true
 field_spaced t list n i = each_field t list well_spaced n i
 
 -- ---- two bytes for each word
@@ -47,9 +48,9 @@ module _ (k : Numbers) where
   value_few Elements v h = rw length-map (elements_short v h)
   value_few Nothing v h = omega arith
 
-  module _ (t list : List ℕ) where
+  module _ (t : List ℕ) (list : List FieldAt) where
     field_few : (i : ℕ) → well_spaced (field_at t list i) ≡ true → 2 * length (field_words k (field_at t list i)) ≤ end_in list i - start_in list i
-    unfolding field_words field_at well_spaced
+    unfolding field_words field_of well_spaced
     field_few i h =
         omega (arith, value_few (sought_at (field_at t list i).place) (value_in t list i) h, length-take (end_in list i - start_in list i) (drop (start_in list i) t))
 

@@ -1,5 +1,5 @@
 -- What is looked up at a place, test by test.
-use mathlib.Core.Path.{◌≡◌, refl, sym}
+use mathlib.Core.Path.{◌≡◌, refl, sym, ap}
 use mathlib.Core.Bool.{Bool, true, false, ◌||◌}
 use mathlib.Core.List.{[], ◌∷◌}
 use Prim.Native.Nat.{ℕ}
@@ -12,13 +12,9 @@ use Rattle.file_words.specs.Looking.{sought_at}
 use Rattle.file_words.specs.declared.places.Sought.TheVariants.{Subject, Subjects, Objects, Elements, Nothing}
 
 module _ (place : ℕ) where
-  pub either_first : (one other : ℕ) → place ≡ one → true ≡ any_of (eqb place) (one ∷ other ∷ [])
+  pub either : (one other : ℕ) → (eqb place one || eqb place other) ≡ any_of (eqb place) (one ∷ other ∷ [])
   unfolding any_of
-  either_first one other h = rw (eq-eqb place one h) refl
-
-  pub either_second : (one other : ℕ) → (place ≡ one → ⊥) → eqb place other ≡ any_of (eqb place) (one ∷ other ∷ [])
-  unfolding any_of
-  either_second one other h = rw (ne_eqb place one h) (go (eqb place other))
+  either one other = ap (λ (b : Bool). eqb place one || b) (go (eqb place other))
     where
       go : (b : Bool) → b ≡ (b || false)
       go true = refl

@@ -6,7 +6,8 @@ use Prim.Native.Nat.{ℕ, ◌≤◌}
 use native.Mathlib.Omega.{arith}
 use lib.ListN.{length, drop, length-map}
 use Rattle.paper.specs.Lists.{spaced, elements_in, elements}
-use Rattle.file_fields.specs.Fields.{place_in, value_in, field_at, well_spaced}
+use Rattle.file_fields.specs.Fields.{value_of, field_of, well_spaced}
+use Rattle.file_fields.specs.declared.file.FieldAt.{FieldAt}
 use Rattle.file_fields.specs.Values.{inside_of}
 use Rattle.file_fields.proofs.Valued.{inside_elements, inside_spaced}
 use Rattle.file_words.specs.declared.places.Sought.{Sought}
@@ -28,68 +29,68 @@ module _ (own : List ℕ) (word : List ℕ → ℕ) (s : List ℕ) (e : own ≡ 
   own_written : (out rest : List ℕ) → out ≡ map word (elements_in s) ++ rest → out ≡ own ++ rest
   own_written out rest h = h ∙ ap (λ (l : List ℕ). l ++ rest) (sym e)
 
-module _ (t list : List ℕ) (i : ℕ) (v s : List ℕ) (ev : v ≡ value_in t list i) (es : s ≡ inside_of v) where
-  its_elements : elements (value_in t list i) ≡ elements_in s
+module _ (t : List ℕ) (f : FieldAt) (v s : List ℕ) (ev : v ≡ value_of t f) (es : s ≡ inside_of v) where
+  its_elements : elements (value_of t f) ≡ elements_in s
   its_elements = rw (es, ← ev) (sym (inside_elements v))
 
-  pub its_spacing : well_spaced (field_at t list i) ≡ true → spaced 0 s ≡ true
-  unfolding well_spaced field_at
+  pub its_spacing : well_spaced (field_of t f) ≡ true → spaced 0 s ≡ true
+  unfolding well_spaced field_of
   its_spacing h = rw es (inside_spaced v (rw ev h))
 
-  module _ (place : ℕ) (x : Sought) (ep : place ≡ place_in list i) (ex : x ≡ sought_at place) (k : Numbers) where
-    by_place : field_words k (field_at t list i) ≡ words_by k x (value_in t list i)
-    unfolding field_words field_at
+  module _ (place : ℕ) (x : Sought) (ep : place ≡ f.place) (ex : x ≡ sought_at place) (k : Numbers) where
+    by_place : field_words k (field_of t f) ≡ words_by k x (value_of t f)
+    unfolding field_words field_of
     by_place = rw (ex, ep) refl
 
     module _ (h : x ≡ Subjects) where
-      of_subjects : field_words k (field_at t list i) ≡ map k.subject (elements_in s)
+      of_subjects : field_words k (field_of t f) ≡ map k.subject (elements_in s)
       unfolding words_by
       of_subjects = by_place ∙ rw (h, its_elements) refl
 
-      pub subjects_room : (n : ℕ) → length (field_words k (field_at t list i)) ≤ n → length (elements_in s) ≤ n
-      subjects_room = own_room (field_words k (field_at t list i)) k.subject s of_subjects
+      pub subjects_room : (n : ℕ) → length (field_words k (field_of t f)) ≤ n → length (elements_in s) ≤ n
+      subjects_room = own_room (field_words k (field_of t f)) k.subject s of_subjects
 
-      pub subjects_count : (r : ℕ) → r ≡ length (elements_in s) → r ≡ length (field_words k (field_at t list i))
-      subjects_count = own_count (field_words k (field_at t list i)) k.subject s of_subjects
+      pub subjects_count : (r : ℕ) → r ≡ length (elements_in s) → r ≡ length (field_words k (field_of t f))
+      subjects_count = own_count (field_words k (field_of t f)) k.subject s of_subjects
 
-      pub subjects_written : (out rest : List ℕ) → out ≡ map k.subject (elements_in s) ++ rest → out ≡ field_words k (field_at t list i) ++ rest
-      subjects_written = own_written (field_words k (field_at t list i)) k.subject s of_subjects
+      pub subjects_written : (out rest : List ℕ) → out ≡ map k.subject (elements_in s) ++ rest → out ≡ field_words k (field_of t f) ++ rest
+      subjects_written = own_written (field_words k (field_of t f)) k.subject s of_subjects
 
     module _ (h : x ≡ Objects) where
-      of_objects : field_words k (field_at t list i) ≡ map k.object (elements_in s)
+      of_objects : field_words k (field_of t f) ≡ map k.object (elements_in s)
       unfolding words_by
       of_objects = by_place ∙ rw (h, its_elements) refl
 
-      pub objects_room : (n : ℕ) → length (field_words k (field_at t list i)) ≤ n → length (elements_in s) ≤ n
-      objects_room = own_room (field_words k (field_at t list i)) k.object s of_objects
+      pub objects_room : (n : ℕ) → length (field_words k (field_of t f)) ≤ n → length (elements_in s) ≤ n
+      objects_room = own_room (field_words k (field_of t f)) k.object s of_objects
 
-      pub objects_count : (r : ℕ) → r ≡ length (elements_in s) → r ≡ length (field_words k (field_at t list i))
-      objects_count = own_count (field_words k (field_at t list i)) k.object s of_objects
+      pub objects_count : (r : ℕ) → r ≡ length (elements_in s) → r ≡ length (field_words k (field_of t f))
+      objects_count = own_count (field_words k (field_of t f)) k.object s of_objects
 
-      pub objects_written : (out rest : List ℕ) → out ≡ map k.object (elements_in s) ++ rest → out ≡ field_words k (field_at t list i) ++ rest
-      objects_written = own_written (field_words k (field_at t list i)) k.object s of_objects
+      pub objects_written : (out rest : List ℕ) → out ≡ map k.object (elements_in s) ++ rest → out ≡ field_words k (field_of t f) ++ rest
+      objects_written = own_written (field_words k (field_of t f)) k.object s of_objects
 
     module _ (h : x ≡ Elements) where
-      of_elements : field_words k (field_at t list i) ≡ map k.element (elements_in s)
+      of_elements : field_words k (field_of t f) ≡ map k.element (elements_in s)
       unfolding words_by
       of_elements = by_place ∙ rw (h, its_elements) refl
 
-      pub elements_room : (n : ℕ) → length (field_words k (field_at t list i)) ≤ n → length (elements_in s) ≤ n
-      elements_room = own_room (field_words k (field_at t list i)) k.element s of_elements
+      pub elements_room : (n : ℕ) → length (field_words k (field_of t f)) ≤ n → length (elements_in s) ≤ n
+      elements_room = own_room (field_words k (field_of t f)) k.element s of_elements
 
-      pub elements_count : (r : ℕ) → r ≡ length (elements_in s) → r ≡ length (field_words k (field_at t list i))
-      elements_count = own_count (field_words k (field_at t list i)) k.element s of_elements
+      pub elements_count : (r : ℕ) → r ≡ length (elements_in s) → r ≡ length (field_words k (field_of t f))
+      elements_count = own_count (field_words k (field_of t f)) k.element s of_elements
 
       pub elements_written : (number : List ℕ → ℕ) (n : ℕ) (subject : List ℕ → ℕ) (out rest : List ℕ) → k.element ≡ element_word_by number n subject
-          → out ≡ map (word_by true number n subject) (elements_in s) ++ rest → out ≡ field_words k (field_at t list i) ++ rest
+          → out ≡ map (word_by true number n subject) (elements_in s) ++ rest → out ≡ field_words k (field_of t f) ++ rest
       unfolding word_by
-      elements_written number n subject out rest e h = own_written (field_words k (field_at t list i)) k.element s of_elements out rest (rw e h)
+      elements_written number n subject out rest e h = own_written (field_words k (field_of t f)) k.element s of_elements out rest (rw e h)
 
-    pub of_subject : x ≡ Subject → field_words k (field_at t list i) ≡ []
+    pub of_subject : x ≡ Subject → field_words k (field_of t f) ≡ []
     unfolding words_by
     of_subject h = by_place ∙ rw h refl
 
-    pub of_nothing : x ≡ Nothing → field_words k (field_at t list i) ≡ []
+    pub of_nothing : x ≡ Nothing → field_words k (field_of t f) ≡ []
     unfolding words_by
     of_nothing h = by_place ∙ rw h refl
 

@@ -16,8 +16,9 @@ use Rattle.file_fields.specs.Fields.{field_at, between}
 use Rattle.file_fields.proofs.Between.{names_more, names_split}
 use Rattle.file_index.specs.Buckets.{Index, numbers_in}
 use Rattle.file_index.specs.Maps.{Maps}
-use Rattle.file_index.proofs.Names.{among_number}
+use Rattle.file_index.proofs.Numbers.{among_number}
 use Rattle.file_words.specs.Words.{Numbers, element_word_by, numbers_by, numbers_of, field_words, words_to, words_in, Worded}
+use Rattle.file_fields.specs.declared.file.FieldAt.{FieldAt}
 
 -- where a start lies behind the next one there are none
 pub none_between : (words : List ℕ) (start end : ℕ) → end < start → take 0 words ≡ take (end - start) (drop start words)
@@ -25,7 +26,7 @@ none_between words start end h = let e : end - start ≡ 0 = omega arith in rw e
 
 -- ---- the words of one field
 
-module _ (k : Numbers) (t list : List ℕ) (n : ℕ) (words starts : List ℕ) (worded : Worded k t list n words starts) where
+module _ (k : Numbers) (t : List ℕ) (list : List FieldAt) (n : ℕ) (words starts : List ℕ) (worded : Worded k t list n words starts) where
   all_stand_lem : Stands words 0 (words_to k t list n)
   all_stand_lem = rw worded.holds at (stands_taken words 0 (length (words_to k t list n)))
 
@@ -91,6 +92,6 @@ module _ (t : List ℕ) (file : List Field) (oix six fix : List ℕ) (o s f : �
     element = λ x. same_element (identifiers_at subject_members file) (domains_at subject_name file) x i;
   })
 
-  pub worded_known : (list : List ℕ) (n : ℕ) (words starts : List ℕ)
+  pub worded_known : (list : List FieldAt) (n : ℕ) (words starts : List ℕ)
       → Worded (numbers_by t oix o six s fix f) t list n words starts → Worded (numbers_of file) t list n words starts
   worded_known list n words starts w = rw same_numbers at w

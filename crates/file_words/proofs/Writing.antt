@@ -1,6 +1,6 @@
 -- The words of names, element by element: what is written and what is left to write is the whole.
 use mathlib.Core.Path.{◌≡◌, refl, sym, ap, ◌∙◌}
-use mathlib.Core.Bool.{Bool, true, false, not}
+use mathlib.Core.Bool.{Bool, true, false}
 use mathlib.Core.List.{List, [], ◌∷◌, ◌++◌, map}
 use Prim.Native.Nat.{ℕ, suc, ◌+◌, ◌-◌, ◌*◌, ◌^◌, ◌<◌, ◌≤◌}
 use native.Mathlib.Omega.{arith}
@@ -14,12 +14,10 @@ use Rattle.paper.specs.Lists.{elements_in}
 use Rattle.paper.specs.Table.{first_domain_word}
 use Rattle.text_lists.specs.Walk.{first_element, element_at, elements_left, SpacedFrom}
 use Rattle.text_lists.specs.declared.Element.{Element}
-use Rattle.text_lists.specs.declared.Element.TheVariants as element
+use Rattle.std.specs.Prelude.{Option, Some, None}
 use Rattle.text_lists.proofs.Walk.{left_first, left_none, left_found, found_from, found_to_lem, found_less, spaced_found}
-use Rattle.file_index.specs.Words.{names_at, name_size}
 use Rattle.file_index.specs.Buckets.{hash_of, numbers_in}
 use Rattle.file_words.specs.declared.Hashed.{Hashed}
-use Rattle.file_words.specs.declared.Hashed.TheVariants.{Found, NoneLeft}
 use Rattle.file_words.specs.Hashed.{hashed_by, hashed_at}
 use Rattle.file_words.specs.Words.{element_word_by, word_by}
 
@@ -33,11 +31,8 @@ is_lent : (xs : List ℕ) → lent xs ≡ xs
 is_lent xs = let e : length xs - 0 ≡ length xs = omega arith in rw e (take-length xs)
 
 module _ (t ix name : List ℕ) (n : ℕ) where
-  pub lent_room : names_at + name_size * n ≤ length ix → names_at + name_size * n ≤ length (lent ix)
-  lent_room h = rw (is_lent ix) h
-
-  pub lent_number : (d : ℕ) → d ≡ numbers_in (lent t) (lent ix) n (lent name) → d ≡ numbers_in t ix n name
-  lent_number d e = e ∙ rw (is_lent t, is_lent ix, is_lent name) refl
+  pub lent_number : (d : ℕ) → d ≡ numbers_in (lent t) ix n (lent name) → d ≡ numbers_in t ix n name
+  lent_number d e = e ∙ rw (is_lent t, is_lent name) refl
 
 -- ---- the word of a name
 
@@ -56,21 +51,13 @@ module _ (function : List ℕ → ℕ) (functions : ℕ) (subject : List ℕ →
     word_of_domain d h f = rw (← p, l, ← e, le-ltb k functions h, f) refl
 
 module _ (pattern : Bool) (number : List ℕ → ℕ) (n : ℕ) (subject : List ℕ → ℕ) (s : List ℕ) (k : ℕ) where
-  pub word_of_name : not pattern ≡ true → k ≡ number s → k ≡ word_by pattern number n subject s
+  pub word_of_name : pattern ≡ false → k ≡ number s → k ≡ word_by pattern number n subject s
   unfolding word_by
-  word_of_name h e = go pattern h
-    where
-      go : (p : Bool) → not p ≡ true → k ≡ word_by p number n subject s
-      go true z = cc
-      go false z = e
+  word_of_name h e = rw h e
 
-  pub word_of_element : not pattern ≡ false → k ≡ element_word_by number n subject s → k ≡ word_by pattern number n subject s
+  pub word_of_element : pattern ≡ true → k ≡ element_word_by number n subject s → k ≡ word_by pattern number n subject s
   unfolding word_by
-  word_of_element h e = go pattern h
-    where
-      go : (p : Bool) → not p ≡ false → k ≡ word_by p number n subject s
-      go true z = e
-      go false z = cc
+  word_of_element h e = rw h e
 
 -- in a list of domains the words are their numbers
 pub domains_written : (number : List ℕ → ℕ) (n : ℕ) (subject : List ℕ → ℕ) (xs : List (List ℕ)) (out rest : List ℕ)
@@ -90,43 +77,60 @@ module _ (s : List ℕ) (at : ℕ) (h : at ≡ first_element s) where
   pub written_first : (word : List ℕ → ℕ) (out : List ℕ) → sets out 0 (map word (elements_left s at)) ≡ sets out 0 (map word (elements_in s))
   written_first word out = rw left_at_first refl
 
-module _ (m : ℕ) (s : List ℕ) (at : ℕ) (r : Hashed) (q : r ≡ hashed_at m s at) where
-  none_left : r ≡ NoneLeft → elements_left s at ≡ []
+abbrev some_element : Element → Option Element
+some_element e = Some e
+
+module _ (m : ℕ) (s : List ℕ) (at : ℕ) (r : Option Hashed) (q : r ≡ hashed_at m s at) where
+  none_left : r ≡ None → elements_left s at ≡ []
   unfolding hashed_at
   none_left n = go (element_at s at) refl q
     where
-      go : (x : Element) → element_at s at ≡ x → r ≡ hashed_by m s at x → elements_left s at ≡ []
-      go element.NoneLeft e h = left_none s at element.NoneLeft (sym e) refl
-      go (element.Found end next) e h = cc
+      go : (x : Option Element) → element_at s at ≡ x → r ≡ hashed_by m s at x → elements_left s at ≡ []
+      go None e h = left_none s at None (sym e) refl
+      go (Some x) e h = cc
 
-  module _ (end next hash : ℕ) (n : r ≡ Found end next hash) where
-    is_found : element.Found end next ≡ element_at s at
+  module _ (y : Hashed) (n : r ≡ Some y) where
+    abbrev end : ℕ
+    end = y.end
+
+    abbrev next : ℕ
+    next = y.next
+
+    -- the element, without its hash
+    abbrev found : Element
+    found = record { end = y.end; next = y.next }
+
+    found_hashed : (Some found ≡ element_at s at) × (y.hash ≡ hash_of m (take (y.end - at) (drop at s)))
     unfolding hashed_at
-    is_found = go (element_at s at) refl q
+    found_hashed = go (element_at s at) refl q
       where
-        go : (x : Element) → element_at s at ≡ x → r ≡ hashed_by m s at x → element.Found end next ≡ element_at s at
-        go element.NoneLeft e h = cc
-        go (element.Found e' n') e h = cc
+        go : (x : Option Element) → element_at s at ≡ x → r ≡ hashed_by m s at x → (Some found ≡ element_at s at) × (y.hash ≡ hash_of m (take (y.end - at) (drop at s)))
+        go None e h = cc
+        go (Some x) e h =
+            let same : y ≡ record { end = x.end; next = x.next; hash = hash_of m (take (x.end - at) (drop at s)) } = cc in
+            (ap (λ (z : Hashed). some_element (record { end = z.end; next = z.next })) same ∙ sym e, ap (λ (z : Hashed). z.hash) same ∙ ap (λ (z : Hashed). hash_of m (take (z.end - at) (drop at s))) (sym same))
 
-    pub its_hash : hash ≡ hash_of m (take (end - at) (drop at s))
-    unfolding hashed_at
-    its_hash = let e : r ≡ Found end next (hash_of m (take (end - at) (drop at s))) = rw (← is_found) at q in cc
+    is_found : Some found ≡ element_at s at
+    is_found = found_hashed.0
+
+    pub its_hash : y.hash ≡ hash_of m (take (y.end - at) (drop at s))
+    its_hash = found_hashed.1
 
     pub its_start : at ≤ end
-    its_start = found_from s at (element.Found end next) is_found end next refl
+    its_start = found_from s at (Some found) is_found found refl
 
     pub its_end : end ≤ length s
-    its_end = found_to_lem s at (element.Found end next) is_found end next refl
+    its_end = found_to_lem s at (Some found) is_found found refl
 
     pub less_left : length s + 3 - next < length s + 3 - at
-    less_left = found_less s at (element.Found end next) is_found end next refl
+    less_left = found_less s at (Some found) is_found found refl
 
     module _ (k : SpacedFrom s at) where
       pub spaced_on : SpacedFrom s next
-      spaced_on = spaced_found s at (element.Found end next) is_found end next refl k
+      spaced_on = spaced_found s at (Some found) is_found found refl k
 
       one_left : elements_left s at ≡ take (end - at) (drop at s) ∷ elements_left s next
-      one_left = left_found s at (element.Found end next) is_found end next refl k
+      one_left = left_found s at (Some found) is_found found refl k
 
       module _ (w : ℕ) (out start : List ℕ) (long : length out ≡ length start) (count : w + length (elements_left s at) ≡ length (elements_in s)) where
         pub count_on : w + 1 + length (elements_left s next) ≡ length (elements_in s)
@@ -145,7 +149,7 @@ module _ (m : ℕ) (s : List ℕ) (at : ℕ) (r : Hashed) (q : r ≡ hashed_at m
             → x ≡ word (take (end - at) (drop at s)) → sets (set out w x) (w + 1) (map word (elements_left s next)) ≡ whole
         written_on word x whole inv e = let one : w + 1 ≡ suc w = omega arith in rw (one, e) (rw one_left at inv)
 
-  module _ (n : r ≡ NoneLeft) (w : ℕ) (count : w + length (elements_left s at) ≡ length (elements_in s)) where
+  module _ (n : r ≡ None) (w : ℕ) (count : w + length (elements_left s at) ≡ length (elements_in s)) where
     pub all_counted : w ≡ length (elements_in s)
     all_counted = omega (arith, ap length (none_left n))
 

@@ -1,3 +1,4 @@
 pub mod Looking
 pub mod Hashed
 pub mod Words
+pub mod Files

@@ -10,9 +10,11 @@ use Rattle.paper.specs.Policy.{element_of}
 use Rattle.paper.specs.Table.{first_domain_word, element_word}
 use Rattle.file_fields.specs.Fields.{between}
 use Rattle.file_index.specs.Buckets.{numbers_in}
+use Rattle.file_index.specs.declared.maps.MapNames.{MapNames}
 use Rattle.file_words.specs.Looking.{sought_at}
 use Rattle.file_words.specs.declared.places.Sought.{Sought}
 use Rattle.file_words.specs.declared.places.Sought.TheVariants.{Subject, Subjects, Objects, Elements, Nothing}
+use Rattle.file_fields.specs.declared.file.FieldAt.{FieldAt}
 
 -- the word of an element, by what numbers so many functions, and what the subject domains
 unfoldable pub element_word_by : (List ℕ → ℕ) → ℕ → (List ℕ → ℕ) → List ℕ → ℕ
@@ -39,6 +41,10 @@ numbers_by t objectIx objects subjectIx subjects functionIx functions =
       element = element_word_by (numbers_in t functionIx functions) functions (numbers_in t subjectIx subjects);
     }
 
+-- those of these maps
+abbrev pub numbers_from : List ℕ → MapNames → Numbers
+numbers_from t m = numbers_by t m.objects.index.now m.objects.count m.subjects.index.now m.subjects.count m.functions.index.now m.functions.count
+
 -- the file does
 abbrev pub numbers_of : List Field → Numbers
 numbers_of file =
@@ -61,7 +67,7 @@ unfoldable pub field_words : Numbers → Field → List ℕ
 field_words k f = words_by k (sought_at f.place) f.value
 
 -- of the fields before number i
-abbrev pub words_to : Numbers → List ℕ → List ℕ → ℕ → List ℕ
+abbrev pub words_to : Numbers → List ℕ → List FieldAt → ℕ → List ℕ
 words_to k t list i = flat_map (field_words k) (between t list 0 i)
 
 -- from the start of field i up to that of the next
@@ -69,12 +75,12 @@ abbrev pub words_in : List ℕ → List ℕ → ℕ → List ℕ
 words_in words starts i = take (get_or starts (i + 1) 0 - get_or starts i 0) (drop (get_or starts i 0) words)
 
 -- the words of n fields stand one behind the other, and where each field's start
-pub record Worded (k : Numbers) (t list : List ℕ) (n : ℕ) (words starts : List ℕ) : Type 0 where
+pub record Worded (k : Numbers) (t : List ℕ) (list : List FieldAt) (n : ℕ) (words starts : List ℕ) : Type 0 where
   pub room : n < length starts
   pub begun : (i : ℕ) → i ≤ n → get_or starts i 0 ≡ length (words_to k t list i)
   pub holds : take (length (words_to k t list n)) words ≡ words_to k t list n
 
 -- the same, whatever numbers the names
-pub record WordedSomehow (t list : List ℕ) (n : ℕ) (words starts : List ℕ) : Type 0 where
+pub record WordedSomehow (t : List ℕ) (list : List FieldAt) (n : ℕ) (words starts : List ℕ) : Type 0 where
   pub numbers : Numbers
   pub worded : Worded numbers t list n words starts

@@ -7,16 +7,18 @@ ghost use Rattle.std.specs.Prelude.{◌≡◌, true, ◌++◌, map, ◌+◌, ◌
 ghost use Rattle.paper.specs.Common.{all_of};
 ghost use Rattle.paper.specs.Limits.{most_domains, most_members};
 ghost use Rattle.paper.specs.Lists.{spaced, elements_in};
-ghost use Rattle.file_fields.specs.Fields.{field_size, field_at, between, well_spaced, bytes_to};
-ghost use Rattle.file_index.specs.Words.{names_at, name_size, multiplier_in};
+ghost use Rattle.file_fields.specs.Fields.{field_of, well_spaced, bytes_to};
+ghost use Rattle.file_fields.specs.Stretches.{fields_of};
+ghost use Rattle.file_index.specs.Words.{multiplier_in};
 ghost use Rattle.file_index.specs.Buckets.{hash_of, numbers_in};
 ghost use Rattle.file_words.specs.Hashed.{hashed_at};
-ghost use Rattle.file_words.specs.Words.{numbers_by, element_word_by, word_by, field_words, words_in, Worded};
+ghost use Rattle.file_words.specs.Words.{numbers_from, element_word_by, word_by, field_words, words_in, Worded};
 
 use crate::places::{Sought, sought_at};
+use file_fields::file::{FieldAt, File};
 use file_fields::values::inside;
-use file_fields::{place_of, value_of};
-use file_index::{number_hashed, number_in};
+use file_index::maps::MapNames;
+use file_index::names::Names;
 use paper::element;
 use text_bytes::byte;
 use text_lists::is_all;
@@ -26,239 +28,164 @@ pub const WORDS: usize = 32768;
 
 pub const STARTS: usize = 8193;
 
-// The element that begins at a place, with its hash; `NoneLeft` where none begins.
+// An element, with its hash: it ends at `end`, and the next begins at `next`.
 #[derive(Clone, Copy)]
-pub enum Hashed {
-    Found {
-        end: usize,
-        next: usize,
-        hash: usize,
-    },
-    NoneLeft,
+pub struct Hashed {
+    pub end: usize,
+    pub next: usize,
+    pub hash: usize,
 }
 
-// Its end and its hash are found in one go.
-fn hashed_at(m: usize, s: &[u8], at: usize) -> Hashed
+// The element that begins at a place: its end and its hash are found in one go.
+fn hashed_at(m: usize, s: &[u8], at: usize) -> Option<Hashed>
     ensures { result ≡ hashed_at m s.now at }
 {
     if s.len() < at {
-        return Hashed::NoneLeft;
+        return None;
     }
     let step = m % file_index::MULTIPLIERS;
     let mut hash: usize = 0;
-    let mut end = at;
-    while end < s.len() {
+    for end in at..s.len() {
         let b = s[end];
         if b == byte::COMMA {
-            return Hashed::Found {
+            return Some(Hashed {
                 end,
                 next: end + 2,
                 hash,
-            };
+            });
         }
         hash = (hash * step + (b as usize)) % file_index::HASHES;
-        end += 1;
     }
-    Hashed::Found {
-        end,
-        next: end + 2,
+    Some(Hashed {
+        end: s.len(),
+        next: s.len() + 2,
         hash,
-    }
+    })
 }
 
 // The word of an element whose hash is h: functions are looked up first, since most elements are. What the last call takes is lent anew:
 // a slice passed on as it came would be put into memory for each element, and not only for a domain.
-fn element_word(
-    t: &[u8],
-    functions_ix: &[usize],
-    functions: usize,
-    subjects_ix: &[usize],
-    subjects: usize,
-    h: usize,
-    name: &[u8],
-) -> u16
-    requires functions_in_bounds { (names_at + name_size * functions ≤ length functions_ix.now) × (functions ≤ most_members) }
-    requires subjects_in_bounds { (names_at + name_size * subjects ≤ length subjects_ix.now) × (subjects ≤ most_domains) }
-    requires h_value { h ≡ hash_of (multiplier_in functions_ix.now) name.now }
-    ensures { result ≡ element_word_by (numbers_in t.now functions_ix.now functions) functions
-        (numbers_in t.now subjects_ix.now subjects) name.now }
+fn element_word(t: &[u8], functions: Names, subjects: Names, h: usize, name: &[u8]) -> u16
+    requires few_functions { functions.count ≤ most_members }
+    requires few_subjects { subjects.count ≤ most_domains }
+    requires h_value { h ≡ hash_of (multiplier_in functions.index.now) name.now }
+    ensures { result ≡ element_word_by (numbers_in t.now functions.entry.index.now functions.entry.count) functions.entry.count
+        (numbers_in t.now subjects.entry.index.now subjects.entry.count) name.now }
 {
     if is_all(name) {
         return element::ALL;
     }
-    let number = number_hashed(t, functions_ix, functions, h, name);
-    if number < functions {
+    let number = functions.number_hashed(t, h, name);
+    if number < functions.count {
         return (number + 1) as u16;
     }
-    element::FIRST_DOMAIN + (number_in(&t[0..], &subjects_ix[0..], subjects, &name[0..]) as u16)
+    element::FIRST_DOMAIN + (subjects.number_in(&t[0..], &name[0..]) as u16)
 }
 
 // The word of a name whose hash is h, in a pattern or in a list of domains.
-fn word_of(
-    t: &[u8],
-    ix: &[usize],
-    n: usize,
-    subjects_ix: &[usize],
-    subjects: usize,
-    pattern: bool,
-    h: usize,
-    name: &[u8],
-) -> u16
-    requires n_in_bounds { (names_at + name_size * n ≤ length ix.now) × (n ≤ most_members) }
-    requires subjects_in_bounds { (names_at + name_size * subjects ≤ length subjects_ix.now) × (subjects ≤ most_domains) }
-    requires h_value { h ≡ hash_of (multiplier_in ix.now) name.now }
-    ensures { result ≡ word_by pattern (numbers_in t.now ix.now n) n
-        (numbers_in t.now subjects_ix.now subjects) name.now }
+fn word_of(t: &[u8], names: Names, subjects: Names, pattern: bool, h: usize, name: &[u8]) -> u16
+    requires few_names { names.count ≤ most_members }
+    requires few_subjects { subjects.count ≤ most_domains }
+    requires h_value { h ≡ hash_of (multiplier_in names.index.now) name.now }
+    ensures { result ≡ word_by pattern (numbers_in t.now names.entry.index.now names.entry.count) names.entry.count
+        (numbers_in t.now subjects.entry.index.now subjects.entry.count) name.now }
 {
-    if !pattern {
-        return number_hashed(t, ix, n, h, name) as u16;
+    if pattern {
+        element_word(t, names, subjects, h, name)
+    } else {
+        names.number_hashed(t, h, name) as u16
     }
-    element_word(t, ix, n, subjects_ix, subjects, h, name)
 }
 
 // The words of the names between a list's brackets: how many there are.
 fn write_words(
     t: &[u8],
-    ix: &[usize],
-    n: usize,
-    subjects_ix: &[usize],
-    subjects: usize,
+    names: Names,
+    subjects: Names,
     pattern: bool,
     s: &[u8],
     out: &mut [u16],
 ) -> usize
-    requires n_in_bounds { (names_at + name_size * n ≤ length ix.now) × (n ≤ most_members) }
-    requires subjects_in_bounds { (names_at + name_size * subjects ≤ length subjects_ix.now) × (subjects ≤ most_domains) }
+    requires few_names { names.count ≤ most_members }
+    requires few_subjects { subjects.count ≤ most_domains }
     requires s_value { spaced 0 s.now ≡ true }
     requires s_in_bounds { length (elements_in s.now) ≤ length out.old }
     ensures value { result ≡ length (elements_in s.now) }
-    ensures out_after { out.new ≡ map (word_by pattern (numbers_in t.now ix.now n) n
-        (numbers_in t.now subjects_ix.now subjects)) (elements_in s.now) ++ drop result out.old }
+    ensures out_after { out.new ≡ map (word_by pattern (numbers_in t.now names.entry.index.now names.entry.count) names.entry.count
+        (numbers_in t.now subjects.entry.index.now subjects.entry.count)) (elements_in s.now) ++ drop result out.old }
 {
-    let m = ix[file_index::layout::MULTIPLIER_AT];
+    let m = names.multiplier();
     let mut w: usize = 0;
     let mut at = text_lists::first_element(s);
-    loop {
-        match hashed_at(m, s, at) {
-            Hashed::NoneLeft => return w,
-            Hashed::Found { end, next, hash } => {
-                let name = &s[at..end];
-                out[w] = word_of(t, ix, n, subjects_ix, subjects, pattern, hash, name);
-                w += 1;
-                at = next;
-            }
-        }
+    while let Some(found) = hashed_at(m, s, at) {
+        let name = &s[at..found.end];
+        out[w] = word_of(t, names, subjects, pattern, found.hash, name);
+        w += 1;
+        at = found.next;
     }
+    w
 }
 
 // The words of the domains between a list's brackets: how many there are.
-fn domain_words(t: &[u8], ix: &[usize], n: usize, s: &[u8], out: &mut [u16]) -> usize
-    requires n_in_bounds { (names_at + name_size * n ≤ length ix.now) × (n ≤ most_domains) }
+fn domain_words(t: &[u8], names: Names, s: &[u8], out: &mut [u16]) -> usize
+    requires few_names { names.count ≤ most_domains }
     requires s_value { spaced 0 s.now ≡ true }
     requires s_in_bounds { length (elements_in s.now) ≤ length out.old }
     ensures value { result ≡ length (elements_in s.now) }
-    ensures out_after { out.new ≡ map (numbers_in t.now ix.now n) (elements_in s.now) ++ drop result out.old }
+    ensures out_after { out.new ≡ map (numbers_in t.now names.entry.index.now names.entry.count) (elements_in s.now) ++ drop result out.old }
 {
-    write_words(t, ix, n, ix, n, false, s, out)
+    write_words(t, names, names, false, s, out)
 }
 
-// The words of field i's names: how many there are.
-fn field_words(
-    t: &[u8],
-    list: &[u32],
-    i: usize,
-    objects_ix: &[usize],
-    objects: usize,
-    subjects_ix: &[usize],
-    subjects: usize,
-    functions_ix: &[usize],
-    functions: usize,
-    out: &mut [u16],
-) -> usize
-    requires i_in_bounds { field_size * (i + 1) ≤ length list.now }
-    requires i_value { well_spaced (field_at t.now list.now i) ≡ true }
-    requires objects_in_bounds { (names_at + name_size * objects ≤ length objects_ix.now) × (objects ≤ most_domains) }
-    requires subjects_in_bounds { (names_at + name_size * subjects ≤ length subjects_ix.now) × (subjects ≤ most_domains) }
-    requires functions_in_bounds { (names_at + name_size * functions ≤ length functions_ix.now) × (functions ≤ most_members) }
-    requires room { length (field_words (numbers_by t.now objects_ix.now objects subjects_ix.now subjects functions_ix.now functions)
-        (field_at t.now list.now i)) ≤ length out.old }
-    ensures value { result ≡ length (field_words (numbers_by t.now objects_ix.now objects subjects_ix.now subjects
-        functions_ix.now functions) (field_at t.now list.now i)) }
-    ensures out_after { out.new ≡ field_words (numbers_by t.now objects_ix.now objects subjects_ix.now subjects
-        functions_ix.now functions) (field_at t.now list.now i) ++ drop result out.old }
+// The words of a field's names: how many there are.
+fn field_words(t: &[u8], field: FieldAt, maps: MapNames, out: &mut [u16]) -> usize
+    requires spaced { well_spaced (field_of t.now field) ≡ true }
+    requires room { length (field_words (numbers_from t.now maps) (field_of t.now field)) ≤ length out.old }
+    ensures value { result ≡ length (field_words (numbers_from t.now maps.entry) (field_of t.now field)) }
+    ensures out_after { out.new ≡ field_words (numbers_from t.now maps.entry) (field_of t.now field) ++ drop result out.old }
 {
-    let s = inside(value_of(t, list, i));
-    match sought_at(place_of(list, i)) {
-        Sought::Subjects => domain_words(t, subjects_ix, subjects, s, out),
-        Sought::Objects => domain_words(t, objects_ix, objects, s, out),
-        Sought::Elements => write_words(
-            t,
-            functions_ix,
-            functions,
-            subjects_ix,
-            subjects,
-            true,
-            s,
-            out,
-        ),
+    let s = inside(field.value(t));
+    match sought_at(field.place()) {
+        Sought::Subjects => domain_words(t, maps.subjects, s, out),
+        Sought::Objects => domain_words(t, maps.objects, s, out),
+        Sought::Elements => write_words(t, maps.functions, maps.subjects, true, s, out),
         Sought::Subject => 0,
         Sought::Nothing => 0,
     }
 }
 
-// The words of all n fields, and where each field's start.
-pub fn look_up(
-    t: &[u8],
-    list: &[u32],
-    n: usize,
-    objects_ix: &[usize],
-    objects: usize,
-    subjects_ix: &[usize],
-    subjects: usize,
-    functions_ix: &[usize],
-    functions: usize,
-    words: &mut [u16],
-    starts: &mut [usize],
-)
-    requires n_in_bounds { field_size * n ≤ length list.now }
-    requires n_value { all_of well_spaced (between t.now list.now 0 n) ≡ true }
-    requires objects_in_bounds { (names_at + name_size * objects ≤ length objects_ix.now) × (objects ≤ most_domains) }
-    requires subjects_in_bounds { (names_at + name_size * subjects ≤ length subjects_ix.now) × (subjects ≤ most_domains) }
-    requires functions_in_bounds { (names_at + name_size * functions ≤ length functions_ix.now) × (functions ≤ most_members) }
-    requires n_bound { (bytes_to list.now n ≤ 2 * length words.old) × (n < length starts.old) }
-    ensures { Worded (numbers_by t.now objects_ix.now objects subjects_ix.now subjects
-        functions_ix.now functions) t.now list.now n words.new starts.new }
+// The words of all fields, and where each field's start.
+pub fn look_up(file: File, maps: MapNames, words: &mut [u16], starts: &mut [usize])
+    requires spaced { all_of well_spaced (fields_of file) ≡ true }
+    requires room { (bytes_to file.fields.now (length file.fields.now) ≤ 2 * length words.old) × (length file.fields.now < length starts.old) }
+    ensures { Worded (numbers_from file.entry.text.now maps.entry) file.entry.text.now file.entry.fields.now (length file.entry.fields.now) words.new starts.new }
 {
     starts[0] = 0;
     let mut w: usize = 0;
-    let mut i: usize = 0;
-    while i < n {
-        w += field_words(
-            t,
-            list,
-            i,
-            objects_ix,
-            objects,
-            subjects_ix,
-            subjects,
-            functions_ix,
-            functions,
-            &mut words[w..],
-        );
-        i += 1;
-        starts[i] = w;
+    for (i, field) in file.fields.iter().enumerate() {
+        w += field_words(file.text, *field, maps, &mut words[w..]);
+        starts[i + 1] = w;
     }
 }
 
-// The words of field i's names.
-pub fn words_of<'a>(words: &'a [u16], starts: &[usize], i: usize) -> &'a [u16]
-    requires { i + 1 < length starts.now }
-    ensures { result.now ≡ words_in words.now starts.now i }
-{
-    let start = starts[i];
-    let end = starts[i + 1];
-    if end < start {
-        return &words[..0];
+// The words of fields' names, one behind the other, and where each field's start.
+#[derive(Clone, Copy)]
+pub struct Words<'a> {
+    pub words: &'a [u16],
+    pub starts: &'a [usize],
+}
+
+impl<'a> Words<'a> {
+    // The words of field i's names.
+    pub fn of(self, i: usize) -> &'a [u16]
+        requires { i + 1 < length self.starts.now }
+        ensures { result.now ≡ words_in self.entry.words.now self.entry.starts.now i }
+    {
+        let start = self.starts[i];
+        let end = self.starts[i + 1];
+        if end < start {
+            return &[];
+        }
+        table::part(self.words, start, end - start)
     }
-    table::part(words, start, end - start)
 }

@@ -16,13 +16,11 @@ pub enum Sought {
     Nothing,
 }
 
+// The place is one of the two.
 pub fn is_either(place: usize, one: usize, other: usize) -> bool
     ensures { result ≡ any_of (eqb place) (one ∷ other ∷ []) }
 {
-    if place == one {
-        return true;
-    }
-    place == other
+    (place == one) | (place == other)
 }
 
 pub fn sought_at(place: usize) -> Sought

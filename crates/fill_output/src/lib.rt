@@ -14,7 +14,8 @@ use text_bytes::byte;
 // The digits follow it, up to 9.
 const ZERO: u8 = b'0';
 
-// A number in decimal: what a tenth of it has, then its last digit.
+// A number in decimal: what a tenth of it has, then its last digit. By hand, since by its contract a `write!` may fail at any
+// writer, and `output` may not.
 fn put_decimal(n: usize, out: &mut [u8]) -> usize
     requires { Fits (decimal n) out.old }
     ensures { Wrote (decimal n) out.old out.new result }

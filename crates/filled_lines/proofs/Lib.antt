@@ -1,5 +1,5 @@
 pub mod Putting
 pub mod Writing
+pub mod Sinks
 pub mod Lines
-mod Keys
 pub mod Omitted

@@ -5,16 +5,16 @@ use mathlib.Core.Logic.{⊎_elim}
 use mathlib.Core.List.{List, [], ◌++◌}
 use Prim.Native.Nat.{ℕ, ◌+◌, ◌-◌, ◌≤◌}
 use native.Mathlib.Omega.{arith}
-use lib.ListN.{length, length-append}
+use lib.ListN.{length}
 use Rattle.paper.specs.Common.{any_of}
 use Rattle.paper.specs.Listing.{execution_context, can_read, can_write, object_context_in, listing, row_at, key_at}
 use Rattle.paper.specs.Entries.{call_contexts, default_at, value_at}
 use Rattle.paper.specs.Filled.{key_line, bare_line, value_line, context_text}
-use Rattle.file_fields.specs.Fields.{between}
+use Rattle.file_fields.specs.Fields.{between, is_key, next_key}
+use Rattle.file_fields.specs.declared.file.FieldAt.{FieldAt}
 use Rattle.file_fields.specs.Places.{IsContext}
 use Rattle.file_fields.proofs.Between.{between_none}
-use Rattle.file_blocks.specs.Written.{is_key, next_key}
-use Rattle.file_blocks.proofs.Keys.{key_at_lem, value_skipped}
+use Rattle.file_fields.proofs.Keys.{key_at_lem, value_skipped}
 use Rattle.filled_lines.specs.Wrote.{Wrote}
 use Rattle.filled_lines.specs.Omitted.{omitted_bytes, omitted_keys, omitted_size}
 
@@ -38,16 +38,16 @@ none_is place which =
     (⊎_elim (λ (e : place ≡ object_context_in can_read). rw e refl) (λ (e : place ≡ object_context_in can_write). rw e refl))
     which
 
-omitted_length : length omitted_keys ≡ omitted_size
+pub omitted_length : length omitted_keys ≡ omitted_size
 unfolding omitted_keys
 omitted_length = refl
 
 -- ---- from the first key on
 
-module _ (t list : List ℕ) (place from to first : ℕ) (e : first ≡ next_key list place from (to - from)) where
+module _ (t : List ℕ) (list : List FieldAt) (place from to first : ℕ) (e : first ≡ next_key list place from (to - from)) where
   line_skipped : (key : ℕ) → is_key place key ≡ true → value_line key (between t list first to) ≡ value_line key (between t list from to)
   unfolding value_line
-  line_skipped key l = ap (key_line key) (value_skipped t list [] [] place from to first e key l)
+  line_skipped key l = ap (key_line key) (value_skipped t list place from to first e key l)
 
   pub context_skipped : context_text place (between t list first to) ≡ context_text place (between t list from to)
   unfolding context_text
@@ -63,6 +63,3 @@ module _ (t list : List ℕ) (place from to first : ℕ) (e : first ≡ next_key
   module _ (which : IsContext place) (h : to ≤ first) where
     pub context_omitted : context_text place (between t list from to) ≡ bare_line place ++ omitted_keys
     context_omitted = sym context_skipped ∙ rw (between_none t list first to h) (none_is place which)
-
-    pub omitted_measured : (a : ℕ) → a ≡ length (bare_line place) → a + omitted_size ≡ length (context_text place (between t list from to))
-    omitted_measured a q = rw context_omitted (omega (arith, length-append (bare_line place) omitted_keys, omitted_length))

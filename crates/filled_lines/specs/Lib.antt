@@ -1,2 +1,4 @@
 pub mod Wrote
 pub mod Omitted
+pub mod Sinks
+pub mod Pages

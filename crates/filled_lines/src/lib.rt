@@ -2,29 +2,26 @@
 // from there.
 #![tactic(auto)]
 
+pub mod page;
+pub mod sink;
+
 ghost use Rattle.std.specs.Prelude.{[], ◌∷◌, ◌++◌};
 ghost use Rattle.paper.specs.Text.{line_feed};
 ghost use Rattle.paper.specs.Listing.{key_at};
 ghost use Rattle.paper.specs.Filled.{key_line, bare_line};
-ghost use Rattle.text_keys.specs.Rows.{key_text};
 ghost use Rattle.filled_lines.specs.Wrote.{Fits, Wrote};
 ghost use Rattle.filled_lines.specs.Omitted.{omitted_keys};
 
 use text_bytes::byte;
 use text_keys::rows;
-use text_keys::rows::Key;
 
 // Bytes as they are.
 fn put(s: &[u8], out: &mut [u8]) -> usize
     requires { Fits s.now out.old }
     ensures { Wrote s.now out.old out.new result }
 {
-    let mut i: usize = 0;
-    while i < s.len() {
-        out[i] = s[i];
-        i += 1;
-    }
-    i
+    out[..s.len()].copy_from_slice(s);
+    s.len()
 }
 
 pub fn put_byte(b: u8, out: &mut [u8]) -> usize
@@ -35,42 +32,13 @@ pub fn put_byte(b: u8, out: &mut [u8]) -> usize
     1
 }
 
-// Each key is put by itself: its text is known when this is compiled, and goes in a few large pieces.
-fn put_key(key: Key, out: &mut [u8]) -> usize
-    requires { Fits (key_text key) out.old }
-    ensures { Wrote (key_text key) out.old out.new result }
-{
-    match key {
-        Key::Nothing => put(b"", out),
-        Key::ObjectMap => put(b"object_map:", out),
-        Key::Name => put(b"- name:", out),
-        Key::Objects => put(b"  objects:", out),
-        Key::SubjectMap => put(b"subject_map:", out),
-        Key::Subjects => put(b"  subjects:", out),
-        Key::Privileges => put(b"privileges:", out),
-        Key::Principal => put(b"- principal:", out),
-        Key::Subject => put(b"    subject:", out),
-        Key::ExecutionContext => put(b"    execution_context:", out),
-        Key::CallContext => put(b"      call_context:", out),
-        Key::Uid => put(b"      uid:", out),
-        Key::Gid => put(b"      gid:", out),
-        Key::Namespace => put(b"      namespace:", out),
-        Key::CanCall => put(b"  can_call:", out),
-        Key::CanReturn => put(b"  can_return:", out),
-        Key::CanRead => put(b"  can_read:", out),
-        Key::ItemObjects => put(b"  - objects:", out),
-        Key::ObjectContext => put(b"    object_context:", out),
-        Key::CanWrite => put(b"  can_write:", out),
-    }
-}
-
 // The key of a place.
 fn key_at(place: usize, out: &mut [u8]) -> usize
     requires { Fits (key_at place) out.old }
     ensures { Wrote (key_at place) out.old out.new result }
 {
     let key = rows::row_at(place).key;
-    put_key(key, out)
+    put(key.look().text, out)
 }
 
 // The keys of a context that has none of them.

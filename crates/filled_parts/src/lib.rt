@@ -1,151 +1,83 @@
-// The parts of an entry of the filled text written, contexts, items and accesses: each function writes the text that the paper or
-// specs/Parts.antt gives its name at the front of what it is lent, and answers how far it wrote.
+// The parts of an entry of the filled text, contexts, items and accesses: each function puts the text that the paper gives its name.
 #![tactic(auto)]
 
-ghost use Rattle.std.specs.Prelude.{◌≡◌, ◌*◌, ◌≤◌, length};
-ghost use mathlib.Core.List.{◌++◌, flat_map};
+ghost use Rattle.std.specs.Prelude.{◌≡◌};
+ghost use mathlib.Core.List.{flat_map};
 ghost use Rattle.paper.specs.Entries.{default_at, items_of};
-ghost use Rattle.paper.specs.Filled.{bare_line, value_line, context_text, item_text, access_text};
-ghost use Rattle.file_fields.specs.Fields.{field_size, between};
+ghost use Rattle.paper.specs.Filled.{value_line, context_text, item_text, access_text};
 ghost use Rattle.file_fields.specs.Places.{IsAccess, IsContext};
-ghost use Rattle.filled_lines.specs.Wrote.{Fits, Wrote};
-ghost use Rattle.filled_lines.specs.Omitted.{omitted_keys};
-ghost use Rattle.filled_parts.specs.Parts.{ids_text};
+ghost use Rattle.file_fields.specs.Stretches.{stretch_of};
 
-use file_blocks::next_key;
-use file_fields::{next_at, value_at};
-use filled_lines::{bare_line, key_line, omitted_keys};
+use file_fields::stretch::Stretch;
+use filled_lines::sink::Sink;
 use text_keys::rows;
 
-// The value at a place among the fields from one number up to another, or its default.
-pub fn value_line<'a>(
-    t: &'a [u8],
-    list: &[u32],
-    place: usize,
-    from: usize,
-    to: usize,
-    omitted: &'a [u8],
-    out: &mut [u8],
-) -> usize
-    requires to_in_bounds { field_size * to ≤ length list.now }
+// The value at a place among these fields, or its default.
+pub fn value_line<'a, S: Sink>(fields: Stretch<'a>, place: usize, omitted: &'a [u8], sink: &mut S)
     requires place_value { default_at place ≡ omitted.now }
-    requires fits { Fits (value_line place (between t.now list.now from to)) out.old }
-    ensures { Wrote (value_line place (between t.now list.now from to)) out.old out.new result }
+    requires fits { S.Fits sink.old (value_line place (stretch_of fields)) }
+    ensures { S.Put sink.old (value_line place (stretch_of fields.entry)) sink.new }
 {
-    let v = value_at(t, list, place, from, to, omitted, b"[]");
-    key_line(place, v, out)
-}
-
-// `uid`, `gid` and `namespace` of a context.
-fn ids(t: &[u8], list: &[u32], place: usize, from: usize, to: usize, out: &mut [u8]) -> usize
-    requires to_in_bounds { field_size * to ≤ length list.now }
-    requires context { IsContext place }
-    requires fits { Fits (ids_text place (between t.now list.now from to)) out.old }
-    ensures { Wrote (ids_text place (between t.now list.now from to)) out.old out.new result }
-{
-    let uid = place + rows::UID;
-    let gid = place + rows::GID;
-    let namespace = place + rows::NAMESPACE;
-    let a = value_line(t, list, uid, from, to, b"all", out);
-    let b = a + value_line(t, list, gid, from, to, b"all", &mut out[a..]);
-    b + value_line(t, list, namespace, from, to, b"all", &mut out[b..])
+    let v = fields.value_at(place, omitted, b"[]");
+    sink.key_line(place, v);
 }
 
 // A context with some of its keys.
-fn found_context(
-    t: &[u8],
-    list: &[u32],
-    place: usize,
-    from: usize,
-    to: usize,
-    out: &mut [u8],
-) -> usize
-    requires to_in_bounds { field_size * to ≤ length list.now }
+fn found_context<S: Sink>(keys: Stretch, place: usize, sink: &mut S)
     requires context { IsContext place }
-    requires fits { Fits (context_text place (between t.now list.now from to)) out.old }
-    ensures { Wrote (context_text place (between t.now list.now from to)) out.old out.new result }
+    requires fits { S.Fits sink.old (context_text place (stretch_of keys)) }
+    ensures { S.Put sink.old (context_text place (stretch_of keys.entry)) sink.new }
 {
-    let a = bare_line(place, out);
-    let call_context = place + rows::CALL_CONTEXT;
-    let b = a + value_line(t, list, call_context, from, to, b"[all]", &mut out[a..]);
-    b + ids(t, list, place, from, to, &mut out[b..])
-}
-
-// A context with none of its keys.
-fn omitted_context(place: usize, out: &mut [u8]) -> usize
-    requires { Fits (bare_line place ++ omitted_keys) out.old }
-    ensures { Wrote (bare_line place ++ omitted_keys) out.old out.new result }
-{
-    let end = bare_line(place, out);
-    end + omitted_keys(&mut out[end..])
+    sink.bare_line(place);
+    value_line(keys, place + rows::CALL_CONTEXT, b"[all]", sink);
+    value_line(keys, place + rows::UID, b"all", sink);
+    value_line(keys, place + rows::GID, b"all", sink);
+    value_line(keys, place + rows::NAMESPACE, b"all", sink);
 }
 
 // A context: most have no key, and one is looked for first.
-pub fn context(
-    t: &[u8],
-    list: &[u32],
-    place: usize,
-    from: usize,
-    to: usize,
-    out: &mut [u8],
-) -> usize
-    requires to_in_bounds { field_size * to ≤ length list.now }
+pub fn context<S: Sink>(fields: Stretch, place: usize, sink: &mut S)
     requires context { IsContext place }
-    requires fits { Fits (context_text place (between t.now list.now from to)) out.old }
-    ensures { Wrote (context_text place (between t.now list.now from to)) out.old out.new result }
+    requires fits { S.Fits sink.old (context_text place (stretch_of fields)) }
+    ensures { S.Put sink.old (context_text place (stretch_of fields.entry)) sink.new }
 {
-    let first = next_key(list, place, from, to);
-    if to <= first {
-        return omitted_context(place, out);
+    match fields.keys_of(place) {
+        Some(keys) => found_context(keys, place, sink),
+        None => {
+            sink.bare_line(place);
+            sink.omitted_keys();
+        }
     }
-    found_context(t, list, place, first, to, out)
 }
 
-fn item(t: &[u8], list: &[u32], access: usize, from: usize, to: usize, out: &mut [u8]) -> usize
-    requires to_in_bounds { field_size * to ≤ length list.now }
+fn item<S: Sink>(fields: Stretch, access: usize, sink: &mut S)
     requires access { IsAccess access }
-    requires fits { Fits (item_text access (between t.now list.now from to)) out.old }
-    ensures { Wrote (item_text access (between t.now list.now from to)) out.old out.new result }
+    requires fits { S.Fits sink.old (item_text access (stretch_of fields)) }
+    ensures { S.Put sink.old (item_text access (stretch_of fields.entry)) sink.new }
 {
-    let objects = access + rows::ITEM_OBJECTS;
-    let place = access + rows::ITEM_CONTEXT;
-    let end = value_line(t, list, objects, from, to, b"all", out);
-    end + context(t, list, place, from, to, &mut out[end..])
+    value_line(fields, access + rows::ITEM_OBJECTS, b"all", sink);
+    context(fields, access + rows::ITEM_CONTEXT, sink);
 }
 
-// All items among the fields from one number up to another.
-fn items(t: &[u8], list: &[u32], access: usize, from: usize, to: usize, out: &mut [u8]) -> usize
-    requires to_in_bounds { (field_size * to ≤ length list.now) × (from ≤ to) }
+fn items<S: Sink>(fields: Stretch, access: usize, sink: &mut S)
     requires access { IsAccess access }
-    requires fits { Fits (flat_map (item_text access) (items_of access (between t.now list.now from to))) out.old }
-    ensures { Wrote (flat_map (item_text access) (items_of access (between t.now list.now from to))) out.old out.new result }
+    requires fits { S.Fits sink.old (flat_map (item_text access) (items_of access (stretch_of fields))) }
+    ensures { S.Put sink.old (flat_map (item_text access) (items_of access (stretch_of fields.entry))) sink.new }
 {
-    let mut end: usize = 0;
-    let mut i = next_at(list, access + rows::ITEM_OBJECTS, from, to);
-    while i < to {
-        let next = next_at(list, access + rows::ITEM_OBJECTS, i + 1, to);
-        end += item(t, list, access, i, next, &mut out[end..]);
-        i = next;
+    for of_item in fields.each(access + rows::ITEM_OBJECTS) {
+        item(of_item, access, sink);
     }
-    end
 }
 
-pub fn access(
-    t: &[u8],
-    list: &[u32],
-    access: usize,
-    from: usize,
-    to: usize,
-    out: &mut [u8],
-) -> usize
-    requires to_in_bounds { (field_size * to ≤ length list.now) × (from ≤ to) }
+pub fn access<S: Sink>(fields: Stretch, access: usize, sink: &mut S)
     requires access { IsAccess access }
-    requires fits { Fits (access_text access (between t.now list.now from to)) out.old }
-    ensures { Wrote (access_text access (between t.now list.now from to)) out.old out.new result }
+    requires fits { S.Fits sink.old (access_text access (stretch_of fields)) }
+    ensures { S.Put sink.old (access_text access (stretch_of fields.entry)) sink.new }
 {
-    if to <= next_at(list, access + rows::ITEM_OBJECTS, from, to) {
-        return value_line(t, list, access, from, to, b"all", out);
+    if fields.next_at(access + rows::ITEM_OBJECTS) < fields.to {
+        sink.bare_line(access);
+        items(fields, access, sink);
+    } else {
+        value_line(fields, access, b"all", sink);
     }
-    let end = bare_line(access, out);
-    end + items(t, list, access, from, to, &mut out[end..])
 }

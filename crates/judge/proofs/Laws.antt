@@ -1,12 +1,13 @@
 -- What the functions of this crate need, as plain laws: the facts that a place in the code has, and what is to be shown there.
-use mathlib.Core.Path.{◌≡◌}
-use mathlib.Core.Bool.{Bool, true, false, not, ◌&&◌}
+use mathlib.Core.Path.{◌≡◌, refl, sym, ◌∙◌}
+use mathlib.Core.Bool.{Bool, true, false, not, cond, ◌&&◌}
+use mathlib.Core.Logic.{⊎_elim}
 use mathlib.Core.List.{List}
 use Prim.Native.Nat.{ℕ, ◌<◌, ◌≤◌}
 use native.Mathlib.Omega.{arith}
-use lib.Dec.{eqb, ltb, leb}
+use lib.Dec.{eqb, ltb}
 use lib.ListN.{length, get_or}
-use borrow.Author.Tests.{eq-eqb, ne_eqb, lt-ltb, le-ltb, le-leb, lt-leb, leb-true}
+use borrow.Author.Tests.{lt-ltb, le-ltb, le-leb, lt-leb}
 use Rattle.paper.specs.declared.Access.{Access}
 use Rattle.paper.specs.declared.Access.TheVariants.{Read, Write, Call, Return}
 use Rattle.paper.specs.declared.Verdict.{Verdict}
@@ -18,7 +19,9 @@ use Rattle.paper.specs.Table.{policy_in, well_formed}
 use Rattle.paper.specs.Match.{top}
 use Rattle.paper.specs.Verdict.{is_code, targets_of, target_number, target_listed, target_domain, inside_one_domain, verdict_of}
 use Rattle.paper.specs.Promises.{access_for, judge_event, judge_answer}
-use Rattle.laws.proofs.Tests.{both_left}
+use Rattle.laws.proofs.Tests.{le_or_lt}
+use Rattle.paper.specs.Common.{within}
+use Rattle.std.specs.Prelude.{Option, Some, None}
 use Rattle.laws.proofs.Chains.{tested_false, tested_true}
 use Rattle.judge_match.specs.declared.Ids.{Ids}
 use Rattle.judge_match.specs.declared.Event.{Event}
@@ -102,57 +105,76 @@ module _ (ws s al : List ℕ) (a : Access) (ids allocated : Ids) where
 
 -- ---- the operation
 
-pub below_low : (low high n : ℕ) → n < low → false ≡ (leb low n && leb n high)
-below_low low high n h = rw (lt-leb low n h)
-
-pub from_low : (low high n : ℕ) → low ≤ n → leb n high ≡ (leb low n && leb n high)
-from_low low high n h = rw (le-leb low n h)
-
 module _ (o t : ℕ) where
-  pub is_read : o ≡ 1 → Read (record { 0 = t }) ≡ access_for o t
-  unfolding access_for
-  is_read h = rw (eq-eqb o 1 h)
+  abbrev accessed : Option Access
+  accessed = cond (within 1 4 o) (Some (access_for o t)) None
 
-  pub is_write_lem : (o ≡ 1 → ⊥) → o ≡ 2 → Write (record { 0 = t }) ≡ access_for o t
+  pub is_read : o ≡ 1 → Some (Read (record { 0 = t })) ≡ accessed
   unfolding access_for
-  is_write_lem n h = rw (ne_eqb o 1 n, eq-eqb o 2 h)
+  is_read h = rw h refl
 
-  pub is_call : (o ≡ 1 → ⊥) → (o ≡ 2 → ⊥) → o ≡ 3 → Call (record { 0 = t }) ≡ access_for o t
+  pub is_write_lem : o ≡ 2 → Some (Write (record { 0 = t })) ≡ accessed
   unfolding access_for
-  is_call n m h = rw (ne_eqb o 1 n, ne_eqb o 2 m, eq-eqb o 3 h)
+  is_write_lem h = rw h refl
 
-  pub is_return : (o ≡ 1 → ⊥) → (o ≡ 2 → ⊥) → (o ≡ 3 → ⊥) → Return (record { 0 = t }) ≡ access_for o t
+  pub is_call : o ≡ 3 → Some (Call (record { 0 = t })) ≡ accessed
   unfolding access_for
-  is_return n m h = rw (ne_eqb o 1 n, ne_eqb o 2 m, ne_eqb o 3 h)
+  is_call h = rw h refl
+
+  pub is_return : o ≡ 4 → Some (Return (record { 0 = t })) ≡ accessed
+  unfolding access_for
+  is_return h = rw h refl
+
+  pub is_none : (o ≡ 1 → ⊥) → (o ≡ 2 → ⊥) → (o ≡ 3 → ⊥) → (o ≡ 4 → ⊥) → None ≡ accessed
+  is_none n m k l =
+      ⊎_elim (λ (z : 1 ≤ o). let past : 4 < o = omega arith in rw (le-leb 1 o z, lt-leb o 4 past) refl) (λ z. rw (lt-leb 1 o z) refl) (le_or_lt 1 o)
 
 -- ---- the refusals
-
-pub some_frame_lem : (frames : ℕ) (b : Bool) → b ≡ (leb 1 frames && leb frames most_frames) → not b ≡ false → 1 ≤ frames
-some_frame_lem frames b e h = leb-true 1 frames (both_left _ (leb frames most_frames) (tested_true _ b e h))
 
 module _ (ws s al : List ℕ) (o t : ℕ) (ids allocated : Ids) where
   abbrev pub event_is : Verdict
   event_is = judge_event (policy_in ws) o t (moment_of s ids) (moment_of al allocated)
 
-  module _ (b : Bool) (frames : b ≡ (leb 1 (length s) && leb (length s) most_frames)) where
-    pub stack_refused : not b ≡ true → Unjudged 21 ≡ event_is
-    unfolding judge_event
-    stack_refused h = rw (tested_false _ b frames h)
+  pub no_frame : length s ≡ 0 → Unjudged 21 ≡ event_is
+  unfolding judge_event
+  no_frame h = rw h refl
 
-    module _ (fits : not b ≡ false) where
+  module _ (some : length s ≡ 0 → ⊥) where
+    pub too_many_frames : most_frames < length s → Unjudged 21 ≡ event_is
+    unfolding judge_event
+    too_many_frames h = let l : 1 ≤ length s = omega arith in rw (le-leb 1 (length s) l, lt-leb (length s) most_frames h) refl
+
+    module _ (fits : length s ≤ most_frames) where
       pub allocation_refused : most_frames < length al → Unjudged 22 ≡ event_is
       unfolding judge_event
-      allocation_refused h = rw (tested_true _ b frames fits, lt-ltb most_frames (length al) h)
+      allocation_refused h =
+          let l : 1 ≤ length s = omega arith in
+          rw (le-leb 1 (length s) l, le-leb (length s) most_frames fits, lt-ltb most_frames (length al) h) refl
 
-      module _ (few : length al ≤ most_frames) (c : Bool) (known : c ≡ (leb 1 o && leb o 4)) where
-        pub operation_refused : not c ≡ true → Unjudged 23 ≡ event_is
+      module _ (few : length al ≤ most_frames) (r : Option Access) (told : r ≡ accessed o t) where
+        judged : event_is ≡ cond (not (within 1 4 o)) (Unjudged 23) (verdict_of (policy_in ws) (access_for o t) (moment_of s ids) (moment_of al allocated))
         unfolding judge_event
-        operation_refused h = rw (tested_true _ b frames fits, le-ltb most_frames (length al) few, tested_false _ c known h)
+        judged =
+            let l : 1 ≤ length s = omega arith in
+            rw (le-leb 1 (length s) l, le-leb (length s) most_frames fits, le-ltb most_frames (length al) few) refl
+
+        pub operation_refused : r ≡ None → Unjudged 23 ≡ event_is
+        operation_refused h = sym (judged ∙ go (within 1 4 o) (sym told ∙ h))
+          where
+            go : (b : Bool) → cond b (Some (access_for o t)) None ≡ None
+                → cond (not b) (Unjudged 23) (verdict_of (policy_in ws) (access_for o t) (moment_of s ids) (moment_of al allocated)) ≡ Unjudged 23
+            go true e = cc
+            go false e = refl
 
         pub event_judged :
-            (a : Access) (v : Verdict) → not c ≡ false → a ≡ access_for o t → v ≡ verdict_of (policy_in ws) a (moment_of s ids) (moment_of al allocated) → v ≡ event_is
-        unfolding judge_event
-        event_judged a v h e q = rw (tested_true _ b frames fits, le-ltb most_frames (length al) few, tested_true _ c known h, ← e) q
+            (a : Access) (v : Verdict) → r ≡ Some a → v ≡ verdict_of (policy_in ws) a (moment_of s ids) (moment_of al allocated) → v ≡ event_is
+        event_judged a v h e = e ∙ sym (judged ∙ go (within 1 4 o) (sym told ∙ h))
+          where
+            go : (b : Bool) → cond b (Some (access_for o t)) None ≡ Some a
+                → cond (not b) (Unjudged 23) (verdict_of (policy_in ws) (access_for o t) (moment_of s ids) (moment_of al allocated))
+                ≡ verdict_of (policy_in ws) a (moment_of s ids) (moment_of al allocated)
+            go true e = let same : access_for o t ≡ a = cc in rw same
+            go false e = cc
 
   pub table_refused : (r : Bool) → r ≡ well_formed ws → not r ≡ true → Unjudged 20 ≡ judge_answer ws o t (moment_of s ids) (moment_of al allocated)
   unfolding judge_answer

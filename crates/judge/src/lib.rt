@@ -2,7 +2,8 @@
 // they hold; `judge` refuses a table that is not well formed before it asks.
 #![tactic(auto)]
 
-ghost use Rattle.std.specs.Prelude.{◌≡◌, ◌&&◌, ◌≤◌, eqb, leb, length};
+ghost use Rattle.std.specs.Prelude.{◌≡◌, ◌&&◌, ◌≤◌, cond, eqb, length, Some, None};
+ghost use Rattle.paper.specs.Common.{within};
 ghost use Rattle.paper.specs.Table.{policy_in};
 ghost use Rattle.paper.specs.Match.{top};
 ghost use Rattle.paper.specs.Verdict.{is_code, targets_of, target_number, target_listed, target_domain, verdict_of};
@@ -61,11 +62,7 @@ fn target_domain(t: &[u16], access: Access) -> u16
 fn inside_one_domain(event: Event) -> bool
     ensures { result ≡ (is_code event.access && eqb event.target event.subject) }
 {
-    let access = event.access;
-    if !is_code(access) {
-        return false;
-    }
-    event.target == event.subject as usize
+    is_code(event.access) && event.target == event.subject
 }
 
 // The verdict, in the paper's order.
@@ -93,11 +90,11 @@ fn verdict(
         };
     }
     let event = Event {
-        access: access,
+        access,
         subject: domains[f],
-        target: target_domain(t, access) as usize,
-        ids: ids,
-        allocated: allocated,
+        target: target_domain(t, access),
+        ids,
+        allocated,
     };
     if inside_one_domain(event) {
         return Verdict::Inside;
@@ -105,29 +102,17 @@ fn verdict(
     by_entries(t, event, stack, allocation)
 }
 
-// The operation with its target, a function's number never being read as an object's.
-fn access_for(operation: u16, target: u16) -> Access
-    ensures { result ≡ access_for operation target }
+// The operation with its target, a function's number never being read as an object's; none where the code is of no operation.
+fn access_for(operation: u16, target: u16) -> Option<Access>
+    ensures { result ≡ cond (within 1 4 operation) (Some (access_for operation target)) None }
 {
-    if operation == Operation::READ {
-        return Access::Read(ObjectNumber(target));
+    match operation {
+        Operation::READ => Some(Access::Read(ObjectNumber(target))),
+        Operation::WRITE => Some(Access::Write(ObjectNumber(target))),
+        Operation::CALL => Some(Access::Call(FunctionNumber(target))),
+        Operation::RETURN => Some(Access::Return(FunctionNumber(target))),
+        _ => None,
     }
-    if operation == Operation::WRITE {
-        return Access::Write(ObjectNumber(target));
-    }
-    if operation == Operation::CALL {
-        return Access::Call(FunctionNumber(target));
-    }
-    Access::Return(FunctionNumber(target))
-}
-
-fn within(low: usize, high: usize, n: usize) -> bool
-    ensures { result ≡ (leb low n && leb n high) }
-{
-    if n < low {
-        return false;
-    }
-    n <= high
 }
 
 // Judges by the words as they stand, for callers that tested once that the table is well formed and ask many times.
@@ -142,7 +127,7 @@ pub fn judge_known(
 ) -> Verdict
     ensures { result ≡ judge_event (policy_in t.now) operation target (moment_of stack.now ids) (moment_of allocation.now allocated) }
 {
-    if !within(1, limit::FRAMES, stack.len()) {
+    if stack.is_empty() || limit::FRAMES < stack.len() {
         return Verdict::Unjudged {
             number: refusal::STACK,
         };
@@ -152,20 +137,12 @@ pub fn judge_known(
             number: refusal::ALLOCATION_STACK,
         };
     }
-    let code = operation as usize;
-    if !within(Operation::READ as usize, Operation::RETURN as usize, code) {
+    let Some(access) = access_for(operation, target) else {
         return Verdict::Unjudged {
             number: refusal::OPERATION,
         };
-    }
-    verdict(
-        t,
-        access_for(operation, target),
-        stack,
-        ids,
-        allocation,
-        allocated,
-    )
+    };
+    verdict(t, access, stack, ids, allocation, allocated)
 }
 
 // Any table and any event to a verdict, or a refusal.

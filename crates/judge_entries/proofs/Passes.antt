@@ -1,28 +1,34 @@
 -- The two passes: while no entry matches, entries are dropped; from one that matches on, the first that grants as well is the answer.
 use mathlib.Core.Path.{◌≡◌, refl, sym, ◌∙◌}
-use mathlib.Core.Bool.{Bool, true, false, cond, not, ◌&&◌, and-false}
+use mathlib.Core.Bool.{Bool, true, false, cond, not, ◌&&◌, and-false, false≢true}
+use mathlib.Core.Logic.{◌⊎◌, ⊎_elim}
 use mathlib.Core.List.{List, map}
 use Prim.Native.Nat.{ℕ, zero, suc, ◌+◌, ◌-◌, ◌<◌, ◌≤◌}
 use native.Mathlib.Omega.{arith}
 use native.Mathlib.Nat.{zero-add}
-use lib.Dec.{eqb}
-use borrow.Author.Tests.{eq-eqb, ne_eqb}
+use lib.ListN.{get_or}
+use Rattle.std.specs.Prelude.{Option, Some, None}
 use Rattle.paper.specs.Common.{count_up}
 use Rattle.paper.specs.declared.Access.{Access}
 use Rattle.paper.specs.declared.Access.TheVariants.{Read, Write, Call, Return}
+use Rattle.paper.specs.declared.FunctionNumber.{FunctionNumber}
+use Rattle.paper.specs.declared.ObjectNumber.{ObjectNumber}
 use Rattle.paper.specs.declared.Verdict.{Verdict}
 use Rattle.paper.specs.declared.Verdict.TheVariants.{Granted, Violation}
 use Rattle.paper.specs.Policy.{Entry, Policy}
-use Rattle.paper.specs.Table.{entry_at, word, subject_domain_count, entry_count, read_count, write_count, grant_in, descriptor_in, entry_in, policy_in, first_descriptor}
-use Rattle.paper.specs.Match.{Moment, entry_matches, grants, descriptor_grants, some_descriptor_grants, context_fits_object, fits_allocated, allocated_sorts_fit}
+use Rattle.paper.specs.Table.{calls_at, returns_at, uid_at, sort_in, element_in, pattern_words_in, context_in, function_domains_in, entry_at, word}
+use Rattle.paper.specs.Table.{subject_domain_count, object_domain_count, entry_count, read_count, write_count, grant_in, descriptor_in, entry_in, policy_in, first_descriptor}
+use Rattle.paper.specs.Match.{Moment, top, matches, sort_fits, entry_matches, grants, descriptor_grants, some_descriptor_grants, context_fits_object, fits_allocated, allocated_sorts_fit}
 use Rattle.paper.specs.Verdict.{is_code, target_domain, entry_grants, by_entries}
 use Rattle.laws.proofs.Tests.{both_left, both_right}
 use Rattle.laws.proofs.Chains.{tested_false, tested_true}
 use Rattle.laws.proofs.Counting.{counted_step, counted_end}
 use Rattle.judge_match.specs.declared.Event.{Event}
 use Rattle.judge_match.specs.Moments.{moment_of, binding, allocation_of, Placed, has_subject}
-use Rattle.judge_match.proofs.Laws.{other_subject}
-use Rattle.judge_entries.specs.Passes.{is_write, code_grant_at, first_match, first_of_all, by_all_entries, by_entries_from, GrantedFrom}
+use Rattle.judge_match.proofs.Laws.{other_subject, other_uid, other_sorts}
+use Rattle.judge_pattern.specs.declared.Words.{Words}
+use Rattle.judge_pattern.specs.Run.{Meeting, EndsMayMeet}
+use Rattle.judge_entries.specs.Passes.{domain_count, is_write, code_grant_at, first_match, first_of_all, by_all_entries, by_entries_from, GrantedFrom, FirstOfAll, MayMatch, granted}
 
 -- ---- the first pass
 
@@ -89,13 +95,13 @@ module _ (ws : List ℕ) (m : Moment) where
       unfolding first_match
       match_step = let l : k < entry_count ws = rw counted at below in rw (counted_step k (entry_count ws) k l, ← told)
 
-      pub matches_here : r ≡ true → k ≡ first_of_all ws m
-      matches_here h = let e : match_left k ≡ 0 = match_step ∙ rw h in omega arith
+      pub matches_here : r ≡ true → FirstOfAll ws m (Some k)
+      matches_here h = let e : match_left k ≡ 0 = match_step ∙ rw h in (omega arith, omega arith)
 
       pub matches_later_lem : r ≡ false → k + 1 + match_left (k + 1) ≡ first_of_all ws m
       matches_later_lem h = let e : match_left k ≡ match_left (k + 1) + 1 = match_step ∙ rw h in omega arith
 
-    pub matches_nowhere : n ≤ k → k ≤ entry_count ws → n ≡ first_of_all ws m
+    pub matches_nowhere : n ≤ k → k ≤ entry_count ws → first_of_all ws m ≡ entry_count ws
     unfolding first_match
     matches_nowhere h l =
         let e : match_left k ≡ 0 = rw (counted_end k (entry_count ws) k (rw counted at h)) in
@@ -156,18 +162,18 @@ module _ (ws s : List ℕ) (event : Event) where
       rw (counted_step k (entry_count ws) k l, ids_count (policy_in ws) (entry_in ws k) event.access s event allocation, still_matched (matches_at k))
 
   module _ (from k n : ℕ) (counted : n ≡ entry_count ws) (allocation : Moment) (same : left allocation k ≡ left allocation from) where
-    none_grants : n ≤ k → GrantedFrom ws s event allocation from n
+    none_grants : n ≤ k → GrantedFrom ws s event allocation from None
     unfolding by_entries by_entries_from
-    none_grants h = record { few = omega arith; decides = rw (← same, counted_end k (entry_count ws) k (rw counted at h), eq-eqb n (entry_count ws) counted) }
+    none_grants h = record { few = λ j e. cc; decides = rw (← same, counted_end k (entry_count ws) k (rw counted at h)) }
 
     module _ (below : k < n) where
       entry_decides : left allocation from ≡ cond (matches_at k && grants_at allocation k) (Granted k) (left allocation (k + 1))
       entry_decides = sym same ∙ grant_step allocation k (rw counted at below)
 
-      grants_here : (r b : Bool) → r ≡ (has_subject ws k event && grants_at allocation k) → r ≡ true → b ≡ matches_at k → b ≡ true → GrantedFrom ws s event allocation from k
+      grants_here : (r b : Bool) → r ≡ (has_subject ws k event && grants_at allocation k) → r ≡ true → b ≡ matches_at k → b ≡ true → GrantedFrom ws s event allocation from (Some k)
       grants_here r b e h f q =
           let g : grants_at allocation k ≡ true = both_right (has_subject ws k event) (grants_at allocation k) (sym e ∙ h) in
-          record { few = omega arith; decides = rw (entry_decides, ← f, q, g, ne_eqb k (entry_count ws) (λ (z : k ≡ entry_count ws). omega arith)) }
+          record { few = λ j e. let x : k ≡ j = cc in omega arith; decides = rw (entry_decides, ← f, q, g) }
 
       grants_not : Placed ws s event → (r : Bool) → r ≡ (has_subject ws k event && grants_at allocation k) → r ≡ false → left allocation (k + 1) ≡ left allocation from
       grants_not placed r e h = go (has_subject ws k event) refl (sym e ∙ h)
@@ -199,7 +205,7 @@ module _ (ws s : List ℕ) (event : Event) where
   CodeLeft from k = (allocation : Moment) → left allocation k ≡ left allocation from
 
   module _ (from k n : ℕ) (counted : n ≡ entry_count ws) (same : CodeLeft from k) where
-    pub code_ends : n ≤ k → (allocation : Moment) → GrantedFrom ws s event allocation from n
+    pub code_ends : n ≤ k → (allocation : Moment) → GrantedFrom ws s event allocation from None
     code_ends h allocation = none_grants from k n counted allocation (same allocation) h
 
     pub code_not_matched : (b : Bool) → k < n → b ≡ matches_at k → b ≡ false → CodeLeft from (k + 1)
@@ -215,7 +221,7 @@ module _ (ws s : List ℕ) (event : Event) where
       pub code_not_granted : r ≡ false → CodeLeft from (k + 1)
       code_not_granted h allocation = grants_not from k n counted allocation (same allocation) below placed r (code_told allocation) h
 
-      pub code_allowed : (b : Bool) → r ≡ true → b ≡ matches_at k → b ≡ true → (allocation : Moment) → GrantedFrom ws s event allocation from k
+      pub code_allowed : (b : Bool) → r ≡ true → b ≡ matches_at k → b ≡ true → (allocation : Moment) → GrantedFrom ws s event allocation from (Some k)
       code_allowed b h e q allocation = grants_here from k n counted allocation (same allocation) below r b (code_told allocation) h e q
 
   -- ---- a read or a write
@@ -247,7 +253,7 @@ module _ (ws s : List ℕ) (event : Event) where
         (rw (data_granted event.access (binding event) (allocation_of al event) k d, ← f, ← p, ← q, ← g, ← x, ← y, ← t) e)
 
   module _ (al : List ℕ) (from k n : ℕ) (counted : n ≡ entry_count ws) (same : left (allocation_of al event) k ≡ left (allocation_of al event) from) where
-    pub data_ends : n ≤ k → GrantedFrom ws s event (allocation_of al event) from n
+    pub data_ends : n ≤ k → GrantedFrom ws s event (allocation_of al event) from None
     data_ends h = none_grants from k n counted (allocation_of al event) same h
 
     module _ (below : k < n) where
@@ -259,7 +265,8 @@ module _ (ws s : List ℕ) (event : Event) where
       data_not_matched b e h = matches_not from k n counted (allocation_of al event) same below b e h
 
       pub data_allowed :
-          (r b : Bool) → r ≡ (has_subject ws k event && grants_at (allocation_of al event) k) → r ≡ true → b ≡ matches_at k → b ≡ true → GrantedFrom ws s event (allocation_of al event) from k
+          (r b : Bool) → r ≡ (has_subject ws k event && grants_at (allocation_of al event) k) → r ≡ true → b ≡ matches_at k → b ≡ true
+          → GrantedFrom ws s event (allocation_of al event) from (Some k)
       data_allowed r b e h f q = grants_here from k n counted (allocation_of al event) same below r b e h f q
 
 -- ---- both
@@ -271,26 +278,101 @@ pub is_data : (a : Access) (b : Bool) → b ≡ is_code a → b ≡ false → is
 is_data a b e h = sym e ∙ h
 
 pub for_this_allocation :
-    (ws s al : List ℕ) (event : Event) (from r : ℕ) → ((allocation : Moment) → GrantedFrom ws s event allocation from r) → GrantedFrom ws s event (allocation_of al event) from r
+    (ws s al : List ℕ) (event : Event) (from : ℕ) (r : Option ℕ) → ((allocation : Moment) → GrantedFrom ws s event allocation from r)
+    → GrantedFrom ws s event (allocation_of al event) from r
 for_this_allocation ws s al event from r h = h (allocation_of al event)
 
-module _ (ws s al : List ℕ) (event : Event) (first n : ℕ) (found : first ≡ first_of_all ws (moment_of s event.ids)) (counted : n ≡ entry_count ws) where
-  pub no_entry_matches : first ≡ n → Violation 3 ≡ by_all_entries ws s event (allocation_of al event)
+module _ (ws s al : List ℕ) (event : Event) where
+  pub no_entry_matches : FirstOfAll ws (moment_of s event.ids) None → Violation 3 ≡ by_all_entries ws s event (allocation_of al event)
   unfolding policy_in
-  no_entry_matches h =
-      none_matches (policy_in ws) (moment_of s event.ids) (entry_in ws) event.access (allocation_of al event) 0 (entry_count ws) (sym found ∙ h ∙ counted)
+  no_entry_matches found = none_matches (policy_in ws) (moment_of s event.ids) (entry_in ws) event.access (allocation_of al event) 0 (entry_count ws) found
 
-  module _ (r : ℕ) (some : first ≡ n → ⊥) (granted : GrantedFrom ws s event (allocation_of al event) first r) where
-    from_first : by_all_entries ws s event (allocation_of al event) ≡ cond (eqb r (entry_count ws)) (Violation 4) (Granted r)
-    unfolding policy_in by_entries_from
-    from_first =
-        let l = match_within (policy_in ws) (moment_of s event.ids) (entry_in ws) 0 (entry_count ws) in
-        let b : first < entry_count ws = omega arith in
-        let q = one_matches (policy_in ws) (moment_of s event.ids) (entry_in ws) event.access (allocation_of al event) 0 (entry_count ws) (rw found at b) in
-        rw zero-add at q ∙ rw (← found) granted.decides
+  pub from_first :
+      (first : ℕ) (r : Option ℕ) → FirstOfAll ws (moment_of s event.ids) (Some first) → GrantedFrom ws s event (allocation_of al event) first r
+      → granted r ≡ by_all_entries ws s event (allocation_of al event)
+  unfolding policy_in by_entries_from
+  from_first first r found grants =
+      let l = match_within (policy_in ws) (moment_of s event.ids) (entry_in ws) 0 (entry_count ws) in
+      let b : first < entry_count ws = found.0 in
+      let q = one_matches (policy_in ws) (moment_of s event.ids) (entry_in ws) event.access (allocation_of al event) 0 (entry_count ws) (rw found.1 at b) in
+      sym (rw zero-add at q ∙ rw (← found.1) grants.decides)
 
-    pub none_of_them_grants : r ≡ n → Violation 4 ≡ by_all_entries ws s event (allocation_of al event)
-    none_of_them_grants h = rw (from_first, eq-eqb r (entry_count ws) (h ∙ counted))
+-- ---- an entry that cannot match
 
-    pub one_grants : (r ≡ n → ⊥) → Granted r ≡ by_all_entries ws s event (allocation_of al event)
-    one_grants h = rw (from_first, ne_eqb r (entry_count ws) (λ (z : r ≡ entry_count ws). h (z ∙ sym counted)))
+pub subject_of_none : (subject : Bool) → false ≡ true → subject ≡ true
+subject_of_none subject h = absurd (false≢true h)
+
+pub subject_known : (subject of r : Bool) → of ≡ subject → not of ≡ false → r ≡ true → subject ≡ true
+subject_known subject of r told h e = tested_true subject of told h
+
+module _ (ws : List ℕ) (k : ℕ) (event : Event) (base running : Words) where
+  pub another_subject_tells : (of : Bool) → of ≡ has_subject ws k event → not of ≡ true → MayMatch ws k event base running false
+  another_subject_tells of told h = record { refuses = λ s placed b t e. other_subject ws s event placed k (tested_false (has_subject ws k event) of told h) }
+
+  module _ (at : ℕ) (stands : at ≡ entry_at k) where
+    pub uid_tells : (u : ℕ) (a : Bool) → u ≡ word ws (at + uid_at) → a ≡ sort_fits (sort_in u) event.ids.uid → not a ≡ true → MayMatch ws k event base running false
+    uid_tells u a uid told h =
+        record { refuses = λ s placed b t e. other_sorts ws s event placed k at stands false (other_uid ws at event.ids u a uid told h) refl }
+
+    pub ends_tell : (p : List ℕ) (r : Bool) → p ≡ pattern_words_in ws at → EndsMayMeet p base running r → MayMatch ws k event base running r
+    unfolding entry_matches entry_in context_in policy_in
+    ends_tell p r reads ends =
+        record {
+          refuses = λ s placed b t e.
+              let fails : false ≡ matches (function_domains_in ws) (map element_in p) s = ends.refuses (function_domains_in ws) s placed.some b t e in
+              rw (← stands, ← reads, ← fails) (simp (and-false));
+        }
+
+pub subject_told : (subject r : Bool) → (r ≡ true → subject ≡ true) → r ≡ true → subject ≡ true
+subject_told subject r told h = told h
+
+pub filtered :
+    (ws s F : List ℕ) (event : Event) (k n : ℕ) (base running : Words) (r : Bool) → n ≡ entry_count ws
+    → k + match_left ws (moment_of s event.ids) k ≡ first_of_all ws (moment_of s event.ids) → k < n → Placed ws s event → F ≡ function_domains_in ws
+    → Meeting F (get_or s 0 0) base → Meeting F (top s) running → MayMatch ws k event base running r → r ≡ false
+    → k + 1 + match_left ws (moment_of s event.ids) (k + 1) ≡ first_of_all ws (moment_of s event.ids)
+filtered ws s F event k n base running r counted so_far below placed same b t may h =
+    matches_later_lem ws (moment_of s event.ids) k n counted so_far false below (may.refuses s placed (rw same at b) (rw same at t) h) refl
+
+-- ---- the access
+
+pub code_called : (a : Access) → ((f : FunctionNumber) × (a ≡ Call f)) ⊎ ((f : FunctionNumber) × (a ≡ Return f)) → true ≡ is_code a
+unfolding is_code
+code_called a h = ⊎_elim (λ c. rw c.1) (λ r. rw r.1) h
+
+pub data_otherwise : (a : Access) → ((f : FunctionNumber) → a ≡ Call f → ⊥) → ((f : FunctionNumber) → a ≡ Return f → ⊥) → false ≡ is_code a
+unfolding is_code
+data_otherwise (Read o) n m = refl
+data_otherwise (Write o) n m = refl
+data_otherwise (Call f) n m = absurd (n f refl)
+data_otherwise (Return f) n m = absurd (m f refl)
+
+pub written : (a : Access) (o : ObjectNumber) → a ≡ Write o → true ≡ is_write a
+unfolding is_write
+written a o e = rw e
+
+pub not_written : (a : Access) → ((o : ObjectNumber) → a ≡ Write o → ⊥) → false ≡ is_write a
+unfolding is_write
+not_written (Read o) n = refl
+not_written (Write o) n = absurd (n o refl)
+not_written (Call f) n = refl
+not_written (Return f) n = refl
+
+pub grant_of_returns : (a : Access) (f : FunctionNumber) → a ≡ Return f → returns_at ≡ code_grant_at a
+unfolding code_grant_at
+grant_of_returns a f e = rw e
+
+pub grant_of_calls : (a : Access) → ((f : FunctionNumber) → a ≡ Return f → ⊥) → calls_at ≡ code_grant_at a
+unfolding code_grant_at
+grant_of_calls (Read o) n = refl
+grant_of_calls (Write o) n = refl
+grant_of_calls (Call f) n = refl
+grant_of_calls (Return f) n = absurd (n f refl)
+
+-- the domains that the target is one of
+module _ (may_ask : ℕ → ℕ → Type 0) (ws : List ℕ) (a : Access) (d n : ℕ) (listed : may_ask d (domain_count ws a)) where
+  pub code_asked : is_code a ≡ true → n ≡ subject_domain_count ws → may_ask d n
+  code_asked h e = rw e (rw h at listed)
+
+  pub data_asked : is_code a ≡ false → n ≡ object_domain_count ws → may_ask d n
+  data_asked h e = rw e (rw h at listed)

@@ -1,223 +1,126 @@
-// The verdict of the entries, in two passes: the first entry that matches, and from it on the first that grants as well.
+// What is asked of the entries: the first that matches; for a call or a return, from one on the first that grants as well; and the
+// verdict that these two come to.
 #![tactic(auto)]
 
-ghost use Rattle.std.specs.Prelude.{◌≡◌, cond, true, false, ◌&&◌, ◌+◌, ◌*◌, ◌≤◌};
-ghost use Rattle.paper.specs.Table.{returns_at, entry_at, entry_count, read_count, write_count, function_domains_in, policy_in, entry_in, grant_in, first_descriptor};
+ghost use Rattle.std.specs.Prelude.{◌≡◌, cond, true, ◌&&◌, ℕ, Some, ◌+◌, ◌<◌, ◌≤◌};
+ghost use Rattle.paper.specs.Table.{returns_at, entry_at, entry_count, subject_domain_count, grant_in};
 ghost use Rattle.paper.specs.Match.{Moment, grants};
-ghost use Rattle.paper.specs.Verdict.{is_code, target_domain, entry_grants};
+ghost use Rattle.paper.specs.Verdict.{is_code};
 ghost use Rattle.table.specs.Reach.{word_values};
-ghost use Rattle.judge_match.specs.Moments.{moment_of, binding, allocation_of, Placed, has_subject};
-ghost use Rattle.judge_entries.specs.Passes.{is_write, code_grant_at, first_of_all, by_all_entries, GrantedFrom};
+ghost use Rattle.judge_match.specs.Moments.{moment_of, has_subject};
+ghost use Rattle.judge_entries.specs.Passes.{is_write, code_grant_at, Ready, FirstOfAll, MayMatch, GrantedFrom, verdict_of_passes};
 
-use judge_match::{Event, grant_holds, has_subject, moment_fits, some_descriptor_grants};
+use judge_match::reading::Reading;
+use judge_match::{Case, grant_holds, pattern_at, sort_fits};
+use judge_pattern::Words;
 use paper::{Access, Verdict, violation};
 use table::layout;
 
 pub fn is_code(access: Access) -> bool
     ensures { result ≡ is_code access }
 {
-    match access {
-        Access::Read(_) => false,
-        Access::Write(_) => false,
-        Access::Call(_) => true,
-        Access::Return(_) => true,
-    }
-}
-
-// The lowest entry that matches, or how many there are where none does.
-fn first_match(t: &[u16], functions: &[u16], event: Event, stack: &[u16]) -> usize
-    requires functions_value { functions.now ≡ function_domains_in t.now }
-    requires placed { Placed t.now stack.now event }
-    ensures { (result ≡ first_of_all t.now (moment_of stack.now event.ids)) × (result ≤ entry_count t.now) }
-{
-    let entries = table::count(t, layout::ENTRY_COUNT_AT);
-    let mut k: usize = 0;
-    while k < entries {
-        if has_subject(t, k, event) {
-            if moment_fits(t, functions, k, event, stack) {
-                return k;
-            }
-        }
-        k += 1;
-    }
-    entries
-}
-
-// Where an entry grants calls, or returns.
-pub fn code_grant_at(access: Access) -> usize
-    ensures { (result ≡ code_grant_at access) × (result ≤ returns_at) }
-{
-    match access {
-        Access::Read(_) => layout::CALLS_AT,
-        Access::Write(_) => layout::CALLS_AT,
-        Access::Call(_) => layout::CALLS_AT,
-        Access::Return(_) => layout::RETURNS_AT,
-    }
-}
-
-// Entry k has the subject and grants the call or return by its grant at a place: these two mostly say no.
-fn code_granted(t: &[u16], k: usize, grant: usize, domains: usize, event: Event) -> bool
-    requires { (k ≤ word_values) × (grant ≤ returns_at) }
-    ensures { result ≡ (has_subject t.now k event && grants (grant_in t.now (entry_at k + grant) domains) event.target) }
-{
-    if !has_subject(t, k, event) {
-        return false;
-    }
-    grant_holds(t, layout::entry_at(k) + grant, domains, event.target)
-}
-
-// The lowest entry from one on that matches and grants the call or return, or how many there are where none does.
-fn first_granting_code(
-    t: &[u16],
-    functions: &[u16],
-    from: usize,
-    event: Event,
-    stack: &[u16],
-) -> usize
-    requires functions_value { functions.now ≡ function_domains_in t.now }
-    requires placed { Placed t.now stack.now event }
-    requires access_value { is_code event.access ≡ true }
-    ensures { (allocation : Moment) → GrantedFrom t.now stack.now event allocation from result }
-{
-    let entries = table::count(t, layout::ENTRY_COUNT_AT);
-    let domains = table::count(t, layout::SUBJECT_DOMAIN_COUNT_AT);
-    let access = event.access;
-    let grant_at = code_grant_at(access);
-    let mut k = from;
-    while k < entries {
-        if code_granted(t, k, grant_at, domains, event) {
-            if moment_fits(t, functions, k, event, stack) {
-                return k;
-            }
-        }
-        k += 1;
-    }
-    entries
+    matches!(access, Access::Call(_) | Access::Return(_))
 }
 
 pub fn is_write(access: Access) -> bool
     ensures { result ≡ is_write access }
 {
-    match access {
-        Access::Read(_) => false,
-        Access::Write(_) => true,
-        Access::Call(_) => false,
-        Access::Return(_) => false,
+    matches!(access, Access::Write(_))
+}
+
+// Where an entry grants calls, or returns.
+fn code_grant_at(access: Access) -> usize
+    ensures { (result ≡ code_grant_at access) × (result ≤ returns_at) }
+{
+    if matches!(access, Access::Return(_)) {
+        layout::RETURNS_AT
+    } else {
+        layout::CALLS_AT
     }
 }
 
-// How many descriptors of an entry stand before those that are asked: writes come after reads.
-pub fn skipped(write: bool, reads: usize) -> usize
-    ensures { (result ≡ cond write reads 0) × (result ≤ reads) }
+// Entry k has the subject, and neither its uid nor an end of its pattern tells that it does not match.
+fn may_match<R: Reading>(case: &Case, k: usize, base: Words, top: Words) -> bool
+    requires k_bound { (k < entry_count case.now.table.now) × (k ≤ word_values) }
+    requires ready { Ready R.may_read R.may_ask case.now.table.now case.now.event }
+    ensures of_subject { result ≡ true → has_subject case.now.table.now k case.now.event ≡ true }
+    ensures may { MayMatch case.now.table.now k case.now.event base top result }
 {
-    if write { reads } else { 0 }
-}
-
-// How many descriptors are asked.
-pub fn asked(write: bool, reads: usize, writes: usize) -> usize
-    ensures { (result ≡ cond write writes reads) × (result ≤ reads + writes) }
-{
-    if write { writes } else { reads }
-}
-
-// Entry k, whose descriptors begin at the first, has the subject and grants the read or write.
-pub fn data_granted(
-    t: &[u16],
-    k: usize,
-    first: usize,
-    reads: usize,
-    writes: usize,
-    event: Event,
-    allocation: &[u16],
-) -> bool
-    requires access_value { (is_code event.access ≡ false) × (event.target ≡ target_domain (policy_in t.now) event.access) }
-    requires k_le_word_values { (k ≤ word_values) × (first ≡ first_descriptor t.now k) × (first ≤ 2 * word_values * k) }
-    requires reads_value { (reads ≡ read_count t.now k) × (writes ≡ write_count t.now k) × (reads + writes ≤ 2 * word_values) }
-    ensures { result ≡ (has_subject t.now k event
-        && entry_grants (policy_in t.now) (entry_in t.now k) event.access (binding event) (allocation_of allocation.now event)) }
-{
-    if !has_subject(t, k, event) {
+    if !case.has_subject::<R>(k) {
         return false;
     }
-    let access = event.access;
-    let write = is_write(access);
-    let start = first + skipped(write, reads);
-    some_descriptor_grants(t, start, asked(write, reads, writes), event, allocation)
+    let at = layout::entry_at(k);
+    if !sort_fits(R::word(case.table, at + layout::UID_AT), case.event.ids.uid) {
+        return false;
+    }
+    judge_pattern::ends_may_meet(pattern_at::<R>(case.table, at), base, top)
 }
 
-// The lowest entry from one on that matches and grants the read or write, or how many there are where none does.
-fn first_granting_data(
-    t: &[u16],
-    functions: &[u16],
-    from: usize,
-    event: Event,
-    stack: &[u16],
-    allocation: &[u16],
-) -> usize
-    requires functions_value { functions.now ≡ function_domains_in t.now }
-    requires placed { Placed t.now stack.now event }
-    requires access_value { is_code event.access ≡ false }
-    requires from_le_word_values { from ≤ word_values }
-    ensures { GrantedFrom t.now stack.now event (allocation_of allocation.now event) from result }
+// The lowest entry that matches.
+pub fn first_match<R: Reading>(case: &Case) -> Option<usize>
+    requires { Ready R.may_read R.may_ask case.now.table.now case.now.event }
+    ensures { FirstOfAll case.now.table.now (moment_of case.now.stack.now case.now.event.ids) result }
 {
-    let entries = table::count(t, layout::ENTRY_COUNT_AT);
-    let mut first = table::first_descriptor(t, from);
-    let mut k = from;
-    while k < entries {
-        let at = layout::entry_at(k);
-        let reads = table::count(t, at + layout::READS_AT);
-        let writes = table::count(t, at + layout::WRITES_AT);
-        if data_granted(t, k, first, reads, writes, event, allocation) {
-            if moment_fits(t, functions, k, event, stack) {
-                return k;
-            }
+    let stack = case.stack;
+    let base = Words::of_frame(case.functions, stack[0]);
+    let top = Words::of_frame(case.functions, stack[stack.len() - 1]);
+    let entries = table::count(case.table, layout::ENTRY_COUNT_AT);
+    for k in 0..entries {
+        if may_match::<R>(case, k, base, top) && case.entry_fits::<R>(k) {
+            return Some(k);
         }
-        first += reads + writes;
-        k += 1;
     }
-    entries
+    None
 }
 
-fn first_granting(
-    t: &[u16],
-    functions: &[u16],
-    from: usize,
-    event: Event,
-    stack: &[u16],
-    allocation: &[u16],
-) -> usize
-    requires functions_value { functions.now ≡ function_domains_in t.now }
-    requires placed { Placed t.now stack.now event }
-    requires from_le_word_values { from ≤ word_values }
-    ensures { GrantedFrom t.now stack.now event (allocation_of allocation.now event) from result }
+// Entry k has the subject and grants the call or return by its grant at a place: these two mostly say no.
+fn code_granted<R: Reading>(case: &Case, k: usize, grant: usize, domains: usize) -> bool
+    requires k_bound { (k < entry_count case.now.table.now) × (k ≤ word_values) }
+    requires of_code { is_code case.now.event.access ≡ true }
+    requires grant_bound { (grant ≤ returns_at) × (domains ≡ subject_domain_count case.now.table.now) }
+    requires ready { Ready R.may_read R.may_ask case.now.table.now case.now.event }
+    ensures { result ≡ (has_subject case.now.table.now k case.now.event
+        && grants (grant_in case.now.table.now (entry_at k + grant) domains) case.now.event.target) }
 {
-    let access = event.access;
-    if is_code(access) {
-        return first_granting_code(t, functions, from, event, stack);
+    if !case.has_subject::<R>(k) {
+        return false;
     }
-    first_granting_data(t, functions, from, event, stack, allocation)
+    grant_holds::<R>(
+        case.table,
+        layout::entry_at(k) + grant,
+        domains,
+        case.event.target as usize,
+    )
 }
 
-// The verdict of the entries; those before the first that matches are not asked for a grant.
-pub fn by_entries(t: &[u16], event: Event, stack: &[u16], allocation: &[u16]) -> Verdict
-    requires { Placed t.now stack.now event }
-    ensures { result ≡ by_all_entries t.now stack.now event (allocation_of allocation.now event) }
+// The lowest entry from one on that matches and grants the call or return.
+pub fn first_granting_code<R: Reading>(case: &Case, from: usize) -> Option<u16>
+    requires access_value { is_code case.now.event.access ≡ true }
+    requires ready { Ready R.may_read R.may_ask case.now.table.now case.now.event }
+    ensures { (allocation : Moment) → GrantedFrom case.now.table.now case.now.stack.now case.now.event allocation from result }
 {
-    let entries = table::count(t, layout::ENTRY_COUNT_AT);
-    let functions = table::functions(t);
-    let first = first_match(t, functions, event, stack);
-    if first == entries {
-        return Verdict::Violation {
+    let domains = table::count(case.table, layout::SUBJECT_DOMAIN_COUNT_AT);
+    let grant = code_grant_at(case.event.access);
+    let entries = table::count(case.table, layout::ENTRY_COUNT_AT);
+    for k in from..entries {
+        if code_granted::<R>(case, k, grant, domains) && case.entry_fits::<R>(k) {
+            return Some(k as u16);
+        }
+    }
+    None
+}
+
+// The verdict, by the lowest entry that matches and the lowest that grants as well; those before the first are not asked for a grant.
+pub fn verdict(matching: Option<usize>, granting: Option<u16>) -> Verdict
+    ensures { result ≡ verdict_of_passes matching granting }
+{
+    match (matching, granting) {
+        (None, _) => Verdict::Violation {
             number: violation::NO_ENTRY_MATCHES,
-        };
-    }
-    let entry = first_granting(t, functions, first, event, stack, allocation);
-    if entry == entries {
-        return Verdict::Violation {
+        },
+        (Some(_), None) => Verdict::Violation {
             number: violation::NONE_GRANTS,
-        };
-    }
-    Verdict::Granted {
-        entry: entry as u16,
+        },
+        (Some(_), Some(entry)) => Verdict::Granted { entry },
     }
 }

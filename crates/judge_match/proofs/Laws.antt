@@ -1,14 +1,15 @@
 -- What the functions of this crate need, as plain laws: the facts that a place in the code has, and what is to be shown there.
 use mathlib.Core.Path.{◌≡◌, refl, sym, ◌∙◌}
-use mathlib.Core.Bool.{Bool, true, false, not, ◌||◌, and-true, and-false}
+use mathlib.Core.Bool.{Bool, true, false, not, ◌&&◌, ◌||◌, and-true, and-false}
+use mathlib.Core.Logic.{⊎_elim}
 use mathlib.Core.List.{List, [], map}
 use Prim.Native.Nat.{ℕ, zero, suc, ◌+◌, ◌-◌, ◌<◌, ◌≤◌}
 use native.Mathlib.Omega.{arith}
 use native.Mathlib.Nat.{add_assoc, zero-add}
-use lib.Dec.{eqb}
-use lib.ListN.{length, take, drop, get_or-eq_default, length-drop}
-use lib.Seq.{take_all}
-use borrow.Author.Tests.{eq-eqb, ne_eqb, lt-ltb}
+use lib.Dec.{eqb, ltb}
+use lib.ListN.{length, drop, get_or-eq_default}
+use borrow.Author.Tests.{eq-eqb, ne_eqb, lt-ltb, le-ltb}
+use Rattle.laws.proofs.Tests.{le_or_lt}
 use Rattle.paper.specs.Common.{all_of, any_of, count_up}
 use Rattle.paper.specs.Scalars.{sort_number}
 use Rattle.paper.specs.Table.{set_at, uid_at, gid_at, namespace_at, every_word, variable_word, subject_at, grant_at, entry_at, descriptor_at, word, object_domain_count, pattern_words_in, function_domains_in}
@@ -187,19 +188,21 @@ module _ (ws : List ℕ) (at domains d w : ℕ) (read : w ≡ word ws at) where
   unfolding grant_in grants
   every_granted h = rw (is_equal _ every_word w read h)
 
-  pub past_not_granted : (w ≡ every_word → ⊥) → domains ≤ d → false ≡ grants (grant_in ws at domains) d
+  past_not_granted : (w ≡ every_word → ⊥) → domains ≤ d → false ≡ grants (grant_in ws at domains) d
   unfolding grant_in grants
   past_not_granted h l =
       let n = length_map_counted (is_in (drop (at + set_at) ws)) 0 domains in
       rw (is_other _ every_word w read h) (sym (get_or-eq_default (map (is_in (drop (at + set_at) ws)) (count_up 0 domains)) false (omega arith)))
 
-  pub set_decides :
-      (q : List ℕ) (r : Bool) → (w ≡ every_word → ⊥) → d < domains → q ≡ take (length ws) (drop (at + set_at) ws) → r ≡ is_in q d → r ≡ grants (grant_in ws at domains) d
+  set_holds : (r : Bool) → (w ≡ every_word → ⊥) → d < domains → r ≡ is_in (drop (at + set_at) ws) d → r ≡ grants (grant_in ws at domains) d
   unfolding grant_in grants
-  set_decides q r h l p s =
-      let n = length-drop (at + set_at) ws in
-      let all : take (length ws) (drop (at + set_at) ws) ≡ drop (at + set_at) ws = take_all (length ws) (drop (at + set_at) ws) (omega arith) in
-      rw (is_other _ every_word w read h, get_d_counted (is_in (drop (at + set_at) ws)) false 0 domains d l, zero-add d, ← all, ← p) s
+  set_holds r h l s = rw (is_other _ every_word w read h, get_d_counted (is_in (drop (at + set_at) ws)) false 0 domains d l, zero-add d) s
+
+  pub set_decides : (r : Bool) → (w ≡ every_word → ⊥) → r ≡ (ltb d domains && is_in (drop (at + set_at) ws) d) → r ≡ grants (grant_in ws at domains) d
+  set_decides r h s =
+      ⊎_elim (λ l. s ∙ (rw (le-ltb d domains l) (past_not_granted h l)))
+      (λ l. set_holds r h l (s ∙ rw (lt-ltb d domains l) refl))
+      (le_or_lt domains d)
 
 -- ---- descriptors
 

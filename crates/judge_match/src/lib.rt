@@ -2,15 +2,18 @@
 // for any words, well formed or not, by the policy that they hold.
 #![tactic(auto)]
 
-ghost use Rattle.std.specs.Prelude.{◌≡◌, true, [], map, ◌+◌, ◌≤◌};
+ghost use Rattle.std.specs.Prelude.{◌≡◌, true, [], map, ◌+◌, ◌/◌, ◌<◌, ◌≤◌};
 ghost use Rattle.paper.specs.Common.{count_up};
-ghost use Rattle.paper.specs.Table.{entry_at, descriptor_at, function_domains_in, policy_in, entry_in, context_in, grant_in, descriptor_in, sort_in};
+ghost use Rattle.paper.specs.Table.{set_at, subject_at, entry_at, descriptor_at, function_domains_in, pattern_words_in, policy_in, entry_in, context_in, grant_in, descriptor_in, sort_in};
 ghost use Rattle.paper.specs.Match.{sort_fits, sorts_fit, allocated_sort_fits, allocated_sorts_fit, sorts_anyone, entry_matches, fits_static, fits_allocated, context_fits_object};
 ghost use Rattle.paper.specs.Match.{grants, descriptor_grants, some_descriptor_grants};
-ghost use Rattle.table.specs.Reach.{reach};
+ghost use Rattle.table.specs.Reach.{reach, word_values};
 ghost use Rattle.judge_match.specs.Moments.{moment_of, binding, allocation_of, Placed, has_subject};
 
-use paper::{Access, Operation};
+pub mod reading;
+
+use crate::reading::{Any, Reading};
+use paper::{Access, limit};
 use table::layout;
 
 // The uid, gid and namespace of a moment.
@@ -26,9 +29,21 @@ pub struct Ids {
 pub struct Event {
     pub access: Access,
     pub subject: u16,
-    pub target: usize,
+    pub target: u16,
     pub ids: Ids,
     pub allocated: Ids,
+}
+
+// An event with its stacks, judged on a table: the domains of the table's functions, the event's stack and that of the allocation.
+#[derive(Clone, Copy)]
+pub struct Case<'a> {
+    pub table: &'a [u16],
+    pub functions: &'a [u16],
+    pub event: Event,
+    pub stack: &'a [u16],
+    pub allocation: &'a [u16],
+    pub ghost functions_value: { functions.now ≡ function_domains_in table.now },
+    pub ghost placed: { Placed table.now stack.now event },
 }
 
 pub fn sort_fits(sort: u16, id: u32) -> bool
@@ -54,17 +69,18 @@ fn allocated_sort_fits(sort: u16, bound: u32, id: u32) -> bool
 }
 
 // The sorts of the context at a place fit the numbers of a moment, whatever its stack.
-fn sorts_fit(t: &[u16], at: usize, ids: Ids) -> bool
-    requires { at ≤ reach }
+fn sorts_fit<R: Reading>(t: &[u16], at: usize, ids: Ids) -> bool
+    requires at_bound { at ≤ reach }
+    requires there { R.may_read t.now (at + subject_at) }
     ensures { result ≡ sorts_fit (context_in t.now at) (moment_of [] ids) }
 {
-    if !sort_fits(table::word(t, at + layout::UID_AT), ids.uid) {
+    if !sort_fits(R::word(t, at + layout::UID_AT), ids.uid) {
         return false;
     }
-    if !sort_fits(table::word(t, at + layout::GID_AT), ids.gid) {
+    if !sort_fits(R::word(t, at + layout::GID_AT), ids.gid) {
         return false;
     }
-    sort_fits(table::word(t, at + layout::NAMESPACE_AT), ids.namespace)
+    sort_fits(R::word(t, at + layout::NAMESPACE_AT), ids.namespace)
 }
 
 // Those of an allocation, each against its own.
@@ -98,27 +114,17 @@ fn sorts_anyone(t: &[u16], at: usize) -> bool
     table::word(t, at + layout::NAMESPACE_AT) == layout::ANYONE
 }
 
-// Entry k has the event's subject.
-pub fn has_subject(t: &[u16], k: usize, event: Event) -> bool
-    requires { entry_at k ≤ reach }
-    ensures { result ≡ has_subject t.now k event }
+// The pattern of the context at a place.
+pub fn pattern_at<R: Reading>(t: &[u16], at: usize) -> &[u16]
+    requires at_bound { at ≤ reach }
+    requires there { R.may_read t.now (at + subject_at) }
+    ensures { result.now ≡ pattern_words_in t.now at }
 {
-    event.subject == table::word(t, layout::entry_at(k) + layout::SUBJECT_AT)
-}
-
-// Entry k, which has the subject, matches: its sorts fit the event, and its pattern the stack. The functions are the table's.
-pub fn moment_fits(t: &[u16], functions: &[u16], k: usize, event: Event, stack: &[u16]) -> bool
-    requires k_bound { entry_at k ≤ reach }
-    requires functions_value { functions.now ≡ function_domains_in t.now }
-    requires placed { Placed t.now stack.now event }
-    requires event_value { has_subject t.now k event ≡ true }
-    ensures { result ≡ entry_matches (policy_in t.now) (entry_in t.now k) (moment_of stack.now event.ids) }
-{
-    let at = layout::entry_at(k);
-    if !sorts_fit(t, at, event.ids) {
-        return false;
+    let n = R::word(t, at) as usize;
+    if limit::ELEMENTS < n {
+        return table::pattern_at(t, at);
     }
-    judge_pattern::matches_stack(&functions[..], table::pattern_at(t, at), &stack[..])
+    R::part(t, at + layout::ELEMENTS_AT, n)
 }
 
 // Only `all` everywhere fits a static object.
@@ -132,74 +138,98 @@ fn fits_static(t: &[u16], at: usize) -> bool
     judge_pattern::is_all(table::pattern_at(t, at))
 }
 
-fn fits_allocated(t: &[u16], at: usize, event: Event, allocation: &[u16]) -> bool
-    requires { at ≤ reach }
-    ensures { result ≡ fits_allocated (policy_in t.now) (context_in t.now at) (binding event) (allocation_of allocation.now event) }
-{
-    if !allocated_sorts_fit(t, at, event.ids, event.allocated) {
-        return false;
-    }
-    judge_pattern::matches_stack(
-        table::functions(t),
-        table::pattern_at(t, at),
-        &allocation[..],
-    )
-}
-
-pub fn context_fits_object(t: &[u16], at: usize, event: Event, allocation: &[u16]) -> bool
-    requires { at ≤ reach }
-    ensures { result ≡ context_fits_object (policy_in t.now) (context_in t.now at) (binding event) (allocation_of allocation.now event) }
-{
-    if allocation.len() == 0 {
-        return fits_static(t, at);
-    }
-    fits_allocated(t, at, event, allocation)
-}
-
 // The grant at a place, among so many domains, holds domain d.
-pub fn grant_holds(t: &[u16], at: usize, domains: usize, d: usize) -> bool
-    requires { at ≤ reach }
+pub fn grant_holds<R: Reading>(t: &[u16], at: usize, domains: usize, d: usize) -> bool
+    requires at_bound { at ≤ reach }
+    requires among { R.may_ask d domains }
+    requires there { R.may_read t.now (at + set_at + d / 16 + 1) }
     ensures { result ≡ grants (grant_in t.now at domains) d }
 {
-    if table::word(t, at) == layout::EVERY {
+    if R::word(t, at) == layout::EVERY {
         return true;
     }
-    if domains <= d {
-        return false;
-    }
-    Operation::contains(table::part(t, at + layout::SET_AT, t.len()), d)
+    R::holds(t, at + layout::SET_AT, domains, d)
 }
 
-fn descriptor_grants(t: &[u16], d: usize, event: Event, allocation: &[u16]) -> bool
-    requires { descriptor_at (d + 1) ≤ reach }
-    ensures { result ≡ descriptor_grants (policy_in t.now) event.target (binding event) (allocation_of allocation.now event) (descriptor_in t.now d) }
-{
-    let at = layout::descriptor_at(d);
-    let domains = table::count(t, layout::OBJECT_DOMAIN_COUNT_AT);
-    if !grant_holds(t, at + layout::GRANT_AT, domains, event.target) {
-        return false;
+impl<'a> Case<'a> {
+    // Entry k has the event's subject.
+    pub fn has_subject<R: Reading>(&self, k: usize) -> bool
+        requires k_bound { entry_at k ≤ reach }
+        requires there { R.may_read self.now.table.now (entry_at (k + 1)) }
+        ensures { result ≡ has_subject self.now.table.now k self.now.event }
+    {
+        self.event.subject == R::word(self.table, layout::entry_at(k) + layout::SUBJECT_AT)
     }
-    context_fits_object(t, at, event, allocation)
-}
 
-// One of n descriptors from the first on grants the access.
-pub fn some_descriptor_grants(
-    t: &[u16],
-    first: usize,
-    n: usize,
-    event: Event,
-    allocation: &[u16],
-) -> bool
-    requires { descriptor_at (first + n) ≤ reach }
-    ensures { result ≡ some_descriptor_grants (policy_in t.now) (map (descriptor_in t.now) (count_up first n))
-        event.target (binding event) (allocation_of allocation.now event) }
-{
-    let mut i: usize = 0;
-    while i < n {
-        if descriptor_grants(t, first + i, event, allocation) {
-            return true;
+    // Entry k, which has the subject, matches: its sorts fit the event, and its pattern the stack.
+    pub fn entry_fits<R: Reading>(&self, k: usize) -> bool
+        requires k_bound { entry_at k ≤ reach }
+        requires there { R.may_read self.now.table.now (entry_at (k + 1)) }
+        requires of_subject { has_subject self.now.table.now k self.now.event ≡ true }
+        ensures { result ≡ entry_matches (policy_in self.now.table.now) (entry_in self.now.table.now k)
+            (moment_of self.now.stack.now self.now.event.ids) }
+    {
+        let at = layout::entry_at(k);
+        if !sorts_fit::<R>(self.table, at, self.event.ids) {
+            return false;
         }
-        i += 1;
+        judge_pattern::matches_stack(self.functions, pattern_at::<R>(self.table, at), self.stack)
     }
-    false
+
+    // The context at a place fits the allocated object.
+    fn fits_allocated(&self, at: usize) -> bool
+        requires { at ≤ reach }
+        ensures { result ≡ fits_allocated (policy_in self.now.table.now) (context_in self.now.table.now at)
+            (binding self.now.event) (allocation_of self.now.allocation.now self.now.event) }
+    {
+        if !allocated_sorts_fit(self.table, at, self.event.ids, self.event.allocated) {
+            return false;
+        }
+        judge_pattern::matches_stack(
+            self.functions,
+            table::pattern_at(self.table, at),
+            self.allocation,
+        )
+    }
+
+    // It fits the object, which is static where nothing allocated it.
+    fn fits_object(&self, at: usize) -> bool
+        requires { at ≤ reach }
+        ensures { result ≡ context_fits_object (policy_in self.now.table.now) (context_in self.now.table.now at)
+            (binding self.now.event) (allocation_of self.now.allocation.now self.now.event) }
+    {
+        if self.allocation.is_empty() {
+            return fits_static(self.table, at);
+        }
+        self.fits_allocated(at)
+    }
+
+    fn descriptor_grants(&self, d: usize) -> bool
+        requires { descriptor_at (d + 1) ≤ reach }
+        ensures { result ≡ descriptor_grants (policy_in self.now.table.now) self.now.event.target
+            (binding self.now.event) (allocation_of self.now.allocation.now self.now.event) (descriptor_in self.now.table.now d) }
+    {
+        let at = layout::descriptor_at(d);
+        let domains = table::count(self.table, layout::OBJECT_DOMAIN_COUNT_AT);
+        let target = self.event.target as usize;
+        if !grant_holds::<Any>(self.table, at + layout::GRANT_AT, domains, target) {
+            return false;
+        }
+        self.fits_object(at)
+    }
+
+    // One of n descriptors from the first on grants the access.
+    pub fn some_descriptor_grants(&self, first: usize, n: usize) -> bool
+        requires { descriptor_at (first + n) ≤ reach }
+        ensures { result ≡ some_descriptor_grants (policy_in self.now.table.now)
+            (map (descriptor_in self.now.table.now) (count_up first n)) self.now.event.target
+            (binding self.now.event) (allocation_of self.now.allocation.now self.now.event) }
+    {
+        for i in 0..n {
+            if self.descriptor_grants(first + i) {
+                return true;
+            }
+        }
+        false
+    }
 }

@@ -1,11 +1,10 @@
 -- An element that is not `all` at the end of a pattern meets the last frame, and the elements before it match the frames below.
-use Prim.Native.Nat.{ℕ, suc, ◌-◌, ◌<◌, ◌≤◌}
-use native.Mathlib.Omega.{arith}
+use Prim.Native.Nat.{ℕ}
 use mathlib.Core.Path.{◌≡◌, refl, sym, ◌∙◌}
 use mathlib.Core.Bool.{Bool, true, false, not, ◌&&◌, ◌||◌}
 use mathlib.Core.List.{List, [], ◌∷◌, ◌++◌, map, map-append}
-use lib.ListN.{length, take, get_or}
-use lib.Seq.{take-suc, take-length}
+use lib.ListN.{length}
+use Rattle.std.specs.List.{IsLastAndRest}
 use Rattle.paper.specs.Policy.{Element, all, fn, any_in}
 use Rattle.paper.specs.Table.{element_in}
 use Rattle.paper.specs.Match.{swallowing, first_meets, matches, is_all}
@@ -13,9 +12,8 @@ use Rattle.laws.specs.Frames.{meets_frame}
 use Rattle.laws.proofs.Tests.{both_false}
 use Rattle.laws.proofs.Chains.{tested_false, tested_true}
 use Rattle.laws.proofs.Elements.{single_matches, word_single, empty_refuses}
-use Rattle.judge_pattern.specs.Run.{LeftBelow, SaysOfTop}
-use Rattle.judge_pattern.specs.declared.Top.{Top}
-use Rattle.judge_pattern.specs.declared.Top.TheVariants.{Differs, Meets}
+use Rattle.judge_pattern.specs.Run.{matches_words}
+use Rattle.judge_pattern.proofs.Lists.{nothing_in}
 
 -- ---- one test more, behind others
 
@@ -79,63 +77,22 @@ module _ (F : List ℕ) (e : Element) (single : is_all e ≡ false) where
     last_meets_top (fn f ∷ p) s = first_then_top x (meets_frame F e x) (matches F (with_last p)) (matches F p) (last_needs_a_frame p, last_meets_top p) _ s
     last_meets_top (any_in d ∷ p) s = first_then_top x (meets_frame F e x) (matches F (with_last p)) (matches F p) (last_needs_a_frame p, last_meets_top p) _ s
 
--- ---- what stands before places a and b, whose elements and frames are met
+-- ---- what is left of a pattern and a stack, each element behind it meeting its frame: it decides
 
-abbrev before : List ℕ → ℕ → List Element
-before p a = map element_in (take a p)
+module _ (F p s q t : List ℕ) (left : matches_words F p s ≡ matches_words F q t) (w : ℕ) (before : List ℕ) (last : IsLastAndRest q w before) (n : w ≡ 0 → ⊥) where
+  -- the last element is one that is not `all`
+  with_one : map element_in q ≡ map element_in before ++ (element_in w ∷ [])
+  with_one = rw last.0 (map-append element_in before (w ∷ []))
 
-one_more : (p : List ℕ) (a : ℕ) → 0 < a → a ≤ length p → take a p ≡ take (a - 1) p ++ (get_or p (a - 1) 0 ∷ [])
-one_more p a h k =
-    let e : suc (a - 1) ≡ a = omega arith in
-    let t : take (suc (a - 1)) p ≡ take (a - 1) p ++ (get_or p (a - 1) 0 ∷ []) = take-suc p (a - 1) 0 (omega arith) in
-    rw e at t
+  pub no_frame_left : length t ≡ 0 → matches_words F p s ≡ false
+  no_frame_left k = left ∙ rw (with_one, nothing_in t k) (last_needs_a_frame F (element_in w) (word_single w n) (map element_in before))
 
-module _ (F p s : List ℕ) where
-  pub nothing_met : LeftBelow F p s (length p) (length s)
-  nothing_met = record { in_pattern = omega arith; in_stack = omega arith; decides = rw (take-length p, take-length s) refl }
+  module _ (x : ℕ) (below : List ℕ) (top : IsLastAndRest t x below) (r : Bool) (told : r ≡ meets_frame F (element_in w) x) where
+    at_top : matches_words F p s ≡ (meets_frame F (element_in w) x && matches_words F before below)
+    at_top = left ∙ rw (with_one, top.0) (last_meets_top F (element_in w) (word_single w n) x (map element_in before) below)
 
-  module _ (a b : ℕ) (left : LeftBelow F p s a b) (h : 0 < a) (n : get_or p (a - 1) 0 ≡ 0 → ⊥) where
-    abbrev one : Element
-    one = element_in (get_or p (a - 1) 0)
+    pub top_differs : not r ≡ true → matches_words F p s ≡ false
+    top_differs d = at_top ∙ rw (tested_false _ r told d)
 
-    -- the last element is one that is not `all`
-    with_one : before p a ≡ before p (a - 1) ++ (one ∷ [])
-    with_one = rw (one_more p a h left.in_pattern) (map-append element_in (take (a - 1) p) (get_or p (a - 1) 0 ∷ []))
-
-    pub no_frame_left : b ≡ 0 → matches F (map element_in p) s ≡ false
-    no_frame_left k =
-        left.decides ∙ rw (with_one, k) (last_needs_a_frame F one (word_single (get_or p (a - 1) 0) n) (before p (a - 1)))
-
-    module _ (k : b ≡ 0 → ⊥) (r : Bool) (told : r ≡ meets_frame F one (get_or s (b - 1) 0)) where
-      at_top : matches F (map element_in p) s ≡ (meets_frame F one (get_or s (b - 1) 0) && matches F (before p (a - 1)) (take (b - 1) s))
-      at_top =
-          let more : 0 < b = omega arith in
-          left.decides ∙ rw (with_one, one_more s b more left.in_stack) (last_meets_top F one (word_single (get_or p (a - 1) 0) n) (get_or s (b - 1) 0) (before p (a - 1)) (take (b - 1) s))
-
-      pub top_differs : not r ≡ true → matches F (map element_in p) s ≡ false
-      top_differs d = at_top ∙ rw (tested_false _ r told d)
-
-      pub top_meets : not r ≡ false → LeftBelow F p s (a - 1) (b - 1)
-      top_meets d =
-          let i : a ≤ length p = left.in_pattern in
-          let j : b ≤ length s = left.in_stack in
-          record { in_pattern = omega arith; in_stack = omega arith; decides = at_top ∙ rw (tested_true _ r told d) }
-
--- ---- the answer of the rest is that of the whole
-
-module _ (F p s : List ℕ) (r : Top) (says : SaysOfTop r F p s) where
-  pub top_refuses : r ≡ Differs → false ≡ matches F (map element_in p) s
-  top_refuses e = sym (rw e at says)
-
-  module _ (a b : ℕ) (e : r ≡ Meets a b) where
-    left_below : LeftBelow F p s a b
-    left_below = rw e at says
-
-    pub left_in_pattern : a ≤ length p
-    left_in_pattern = left_below.in_pattern
-
-    pub left_in_stack : b ≤ length s
-    left_in_stack = left_below.in_stack
-
-    pub left_decides : (t : Bool) → t ≡ matches F (before p a) (take b s) → t ≡ matches F (map element_in p) s
-    left_decides t h = h ∙ sym left_below.decides
+    pub top_meets : not r ≡ false → matches_words F p s ≡ matches_words F before below
+    top_meets d = at_top ∙ rw (tested_true _ r told d)

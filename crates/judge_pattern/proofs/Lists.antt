@@ -1,14 +1,28 @@
 -- What `matches` says of `all` and of elements that are not, over plain lists.
 use Prim.Native.Nat.{ℕ}
+use native.Mathlib.Omega.{arith}
 use mathlib.Core.Path.{◌≡◌, refl}
 use mathlib.Core.Bool.{Bool, true, false}
 use mathlib.Core.List.{List, [], ◌∷◌}
+use lib.ListN.{length}
 use Rattle.paper.specs.Common.{is_empty}
 use Rattle.paper.specs.Policy.{Element, all}
 use Rattle.paper.specs.Match.{swallowing, first_meets, matches, is_all}
 use Rattle.laws.specs.Frames.{meets_frame}
 use Rattle.laws.proofs.Tests.{both_false, either_right, neither, neither_left, neither_right}
-use Rattle.laws.proofs.Elements.{all_takes, single_matches}
+use Rattle.laws.proofs.Elements.{empty_refuses, all_takes, single_matches}
+
+-- ---- a list with nothing in it
+
+pub nothing_in : (xs : List ℕ) → length xs ≡ 0 → xs ≡ []
+nothing_in [] h = refl
+nothing_in (x ∷ xs) h = absurd (omega arith)
+
+pub empty_needs_none : (F t : List ℕ) → (length t ≡ 0 → ⊥) → matches F [] t ≡ false
+empty_needs_none F [] n = absurd (n refl)
+empty_needs_none F (x ∷ t) n = empty_refuses F x t
+
+-- ---- `all`s
 
 module _ (F : List ℕ) where
   pub all_refuses : (p : List Element) (s : List ℕ) → matches F (all ∷ p) s ≡ false → matches F p s ≡ false

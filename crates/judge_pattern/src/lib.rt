@@ -1,12 +1,12 @@
 // Patterns of elements (`paper::element`) against stacks of function numbers, base first; functions are given by their domains.
 #![tactic(auto)]
 
-ghost use Rattle.std.specs.Prelude.{◌≡◌, ◌||◌, map, ◌<◌, ◌≤◌, eqb, length, get_or};
+ghost use Rattle.std.specs.Prelude.{◌≡◌, ◌||◌, map, ◌<◌, ◌≤◌, eqb, length, get_or, position};
 ghost use Rattle.paper.specs.Common.{all_of};
 ghost use Rattle.paper.specs.Match.{matches, is_all};
 ghost use Rattle.paper.specs.Table.{element_in};
 ghost use Rattle.laws.specs.Frames.{meets_frame};
-ghost use Rattle.judge_pattern.specs.Run.{Meeting, EndsMayMeet, Says, SaysOfTop, BehindAlls, NextMeeting, matches_later};
+ghost use Rattle.judge_pattern.specs.Run.{Meeting, EndsMayMeet, Says, SaysOfTop, matches_later};
 
 use paper::element;
 
@@ -18,200 +18,145 @@ fn meets(functions: &[u16], one: u16, frame: u16) -> bool
     if one < element::FIRST_DOMAIN {
         return one - 1 == frame;
     }
-    let f = frame as usize;
-    if functions.len() <= f {
-        return false;
+    match functions.get(frame as usize) {
+        Some(domain) => *domain == one - element::FIRST_DOMAIN,
+        None => false,
     }
-    functions[f] == one - element::FIRST_DOMAIN
 }
 
-// The words of the elements besides `all` that can meet a frame.
+// The words of the elements besides `all` that can meet a frame: its function's, and its domain's. One that is not listed lies in
+// no domain, and has `all` there.
 #[derive(Clone, Copy)]
 pub struct Words {
     pub function: usize,
     pub domain: usize,
 }
 
-fn domain_of(functions: &[u16], f: usize) -> u16
-    requires { f < length functions.now }
-    ensures { result ≡ get_or functions.now f 0 }
-{
-    functions[f]
-}
-
-// Those of a frame; one that is not listed lies in no domain.
-pub fn words_for(functions: &[u16], frame: u16) -> Words
-    ensures { Meeting functions.now frame result }
-{
-    let f = frame as usize;
-    if functions.len() <= f {
-        return Words {
+impl Words {
+    pub fn of_frame(functions: &[u16], frame: u16) -> Words
+        ensures { Meeting functions.now frame result }
+    {
+        let f = frame as usize;
+        Words {
             function: f + 1,
-            domain: element::ALL as usize,
-        };
+            domain: match functions.get(f) {
+                Some(domain) => *domain as usize + element::FIRST_DOMAIN as usize,
+                None => element::ALL as usize,
+            },
+        }
     }
-    Words {
-        function: f + 1,
-        domain: domain_of(functions, f) as usize + element::FIRST_DOMAIN as usize,
-    }
-}
 
-fn may_meet(one: u16, words: Words) -> bool
-    ensures { result ≡ (eqb one 0 || (eqb one words.function || eqb one words.domain)) }
-{
-    let w = one as usize;
-    (one == element::ALL) | ((w == words.function) | (w == words.domain))
+    // All three are compared at once, without a branch for each.
+    fn may_have(self, one: u16) -> bool
+        ensures { result ≡ (eqb one 0 || (eqb one self.function || eqb one self.domain)) }
+    {
+        let w = one as usize;
+        (one == element::ALL) | ((w == self.function) | (w == self.domain))
+    }
 }
 
 // The first element may meet the base and the last one the top: two words that tell of most patterns that they do not match.
 pub fn ends_may_meet(pattern: &[u16], base: Words, top: Words) -> bool
     ensures { EndsMayMeet pattern.now base top result }
 {
-    let n = pattern.len();
-    if n == 0 {
+    let Some((last, _)) = pattern.split_last() else {
         return false;
-    }
-    if !may_meet(pattern[n - 1], top) {
-        return false;
-    }
-    may_meet(pattern[0], base)
-}
-
-// What comes of holding the elements behind the last `all` against the top frames.
-#[derive(Clone, Copy)]
-enum Top {
-    // one of them has no frame, or does not meet it
-    Differs,
-    // each meets its own: so many elements and frames are left before them
-    Meets { elements: usize, frames: usize },
+    };
+    top.may_have(*last) && base.may_have(pattern[0])
 }
 
 // Reads elements and frames from both ends down, up to an `all`: most patterns that do not match tell here.
-fn from_top(functions: &[u16], pattern: &[u16], stack: &[u16]) -> Top
-    ensures { SaysOfTop result functions.now pattern.now stack.now }
+// What is left below them, where each of those elements has a frame and meets it.
+fn from_top<'a>(
+    functions: &[u16],
+    pattern: &'a [u16],
+    stack: &'a [u16],
+) -> Option<(&'a [u16], &'a [u16])>
+    ensures { SaysOfTop functions.now pattern.now stack.now result }
 {
-    let mut a = pattern.len();
-    let mut b = stack.len();
-    while 0 < a {
-        let last = pattern[a - 1];
-        if last == element::ALL {
+    let mut elements = pattern;
+    let mut frames = stack;
+    while let Some((last, before)) = elements.split_last() {
+        if *last == element::ALL {
             break;
         }
-        if b == 0 {
-            return Top::Differs;
+        let (top, below) = frames.split_last()?;
+        if !meets(functions, *last, *top) {
+            return None;
         }
-        if !meets(functions, last, stack[b - 1]) {
-            return Top::Differs;
-        }
-        a -= 1;
-        b -= 1;
+        elements = before;
+        frames = below;
     }
-    Top::Meets {
-        elements: a,
-        frames: b,
-    }
+    Some((elements, frames))
 }
 
 // What comes of reading an element and a frame at a time, up to an `all`.
 #[derive(Clone, Copy)]
-enum Run {
+enum Run<'a> {
     // both are read to their end
     Match,
     // no match from this frame on
     Fail,
     // nor from any later frame on
     Never,
-    // every element up to an `all` fits: the place after it, and that of the next frame
-    All { rest: usize, frame: usize },
+    // every element up to an `all` fits: what stands behind it, and the frames left
+    All { rest: &'a [u16], frames: &'a [u16] },
 }
 
-// Reads elements and frames from places i and j on, up to an `all`.
-fn up_to_all(functions: &[u16], pattern: &[u16], i: usize, stack: &[u16], j: usize) -> Run
-    requires { (i ≤ length pattern.now) × (j ≤ length stack.now) }
-    ensures { Says result functions.now pattern.now i stack.now j }
+// Reads elements and frames from the front, up to an `all`.
+fn up_to_all<'a>(functions: &[u16], pattern: &'a [u16], stack: &'a [u16]) -> Run<'a>
+    ensures { Says result functions.now pattern.now stack.now }
 {
-    let mut a = i;
-    let mut b = j;
-    while a < pattern.len() {
-        let one = pattern[a];
-        if one == element::ALL {
-            return Run::All {
-                rest: a + 1,
-                frame: b,
-            };
+    let mut elements = pattern;
+    let mut frames = stack;
+    while let Some((one, rest)) = elements.split_first() {
+        if *one == element::ALL {
+            return Run::All { rest, frames };
         }
-        if b == stack.len() {
+        let Some((frame, above)) = frames.split_first() else {
             return Run::Never;
-        }
-        if !meets(functions, one, stack[b]) {
+        };
+        if !meets(functions, *one, *frame) {
             return Run::Fail;
         }
-        a += 1;
-        b += 1;
+        elements = rest;
+        frames = above;
     }
-    if b == stack.len() {
+    if frames.is_empty() {
         Run::Match
     } else {
         Run::Fail
     }
 }
 
-// The first place from i on that is not `all`, or the end: `all`s that stand together swallow what one does.
-fn behind_alls(pattern: &[u16], i: usize) -> usize
-    requires { i ≤ length pattern.now }
-    ensures { BehindAlls pattern.now i result × (result < length pattern.now → get_or pattern.now result 0 ≡ 0 → ⊥) }
+// The first frame that the element, which is not `all`, meets.
+fn next_meeting(functions: &[u16], one: u16, frames: &[u16]) -> Option<usize>
+    requires { one ≡ 0 → ⊥ }
+    ensures { result ≡ position (meets_frame functions.now (element_in one)) frames.now }
 {
-    let mut a = i;
-    while a < pattern.len() {
-        if pattern[a] != element::ALL {
-            return a;
-        }
-        a += 1;
-    }
-    a
+    frames
+        .iter()
+        .position(|frame| meets(functions, one, *frame))
 }
 
-// The first frame from place j on that the element at a place, which is not `all`, meets; or the end.
-fn next_meeting(functions: &[u16], pattern: &[u16], i: usize, stack: &[u16], j: usize) -> usize
-    requires { (i < length pattern.now) × (get_or pattern.now i 0 ≡ 0 → ⊥) × (j ≤ length stack.now) }
-    ensures { NextMeeting functions.now pattern.now i stack.now j result }
-{
-    let one = pattern[i];
-    let mut k = j;
-    while k < stack.len() {
-        if meets(functions, one, stack[k]) {
-            return k;
-        }
-        k += 1;
-    }
-    k
-}
-
-// The pattern from place i on, behind an `all`, against the stack from place j on.
+// The pattern, behind an `all`, against the stack. `all`s that stand together swallow what one does.
 // Once the elements up to the next `all` fit, no later place is tried: the frames between, that `all` can swallow.
-// A slice is handed on as its own whole part, `&s[..]`, which the compiler makes anew: handed on as it came, it would be copied through memory.
-fn walk(functions: &[u16], pattern: &[u16], i: usize, stack: &[u16], j: usize) -> bool
-    requires { (i ≤ length pattern.now) × (j ≤ length stack.now) }
-    ensures { result ≡ matches_later functions.now pattern.now i stack.now j }
+fn walk(functions: &[u16], pattern: &[u16], stack: &[u16]) -> bool
+    ensures { result ≡ matches_later functions.now pattern.now stack.now }
 {
-    let start = behind_alls(pattern, i);
-    if start == pattern.len() {
+    let Some(start) = pattern.iter().position(|one| *one != element::ALL) else {
         return true;
-    }
-    let mut k = next_meeting(functions, pattern, start, stack, j);
-    while k < stack.len() {
-        match up_to_all(functions, pattern, start, stack, k) {
+    };
+    let elements = &pattern[start..];
+    let mut left = stack;
+    while let Some(k) = next_meeting(functions, elements[0], left) {
+        let met = &left[k..];
+        match up_to_all(functions, elements, met) {
             Run::Match => return true,
             Run::Never => return false,
-            Run::All { rest, frame } => return walk(
-                &functions[..],
-                &pattern[..],
-                rest,
-                &stack[..],
-                frame,
-            ),
+            Run::All { rest, frames } => return walk(functions, rest, frames),
             Run::Fail => {
-                k = next_meeting(functions, pattern, start, stack, k + 1);
+                left = &met[1..];
             }
         }
     }
@@ -222,11 +167,10 @@ fn walk(functions: &[u16], pattern: &[u16], i: usize, stack: &[u16], j: usize) -
 fn matches_from_base(functions: &[u16], pattern: &[u16], stack: &[u16]) -> bool
     ensures { result ≡ matches functions.now (map element_in pattern.now) stack.now }
 {
-    match up_to_all(functions, pattern, 0, stack, 0) {
+    match up_to_all(functions, pattern, stack) {
         Run::Match => true,
-        Run::Fail => false,
-        Run::Never => false,
-        Run::All { rest, frame } => walk(&functions[..], &pattern[..], rest, &stack[..], frame),
+        Run::Fail | Run::Never => false,
+        Run::All { rest, frames } => walk(functions, rest, frames),
     }
 }
 
@@ -235,12 +179,8 @@ pub fn matches_stack(functions: &[u16], pattern: &[u16], stack: &[u16]) -> bool
     ensures { result ≡ matches functions.now (map element_in pattern.now) stack.now }
 {
     match from_top(functions, pattern, stack) {
-        Top::Differs => false,
-        Top::Meets { elements, frames } => matches_from_base(
-            functions,
-            &pattern[..elements],
-            &stack[..frames],
-        ),
+        None => false,
+        Some((elements, frames)) => matches_from_base(functions, elements, frames),
     }
 }
 
@@ -248,12 +188,5 @@ pub fn matches_stack(functions: &[u16], pattern: &[u16], stack: &[u16]) -> bool
 pub fn is_all(pattern: &[u16]) -> bool
     ensures { result ≡ all_of is_all (map element_in pattern.now) }
 {
-    let mut i = 0;
-    while i < pattern.len() {
-        if pattern[i] != element::ALL {
-            return false;
-        }
-        i += 1;
-    }
-    true
+    pattern.iter().all(|one| *one == element::ALL)
 }

@@ -10,3 +10,5 @@ pub mod Bits
 pub mod Bytes
 pub mod Pieces
 pub mod Elements
+pub mod Mirrors
+pub mod Library

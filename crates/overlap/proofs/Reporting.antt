@@ -10,18 +10,20 @@ use lib.Seq.{take_at}
 use borrow.Author.Tests.{lt-ltb, le-ltb, not-true, not-false}
 use Rattle.paper.specs.declared.Report.{Report}
 use Rattle.paper.specs.declared.Report.TheVariants.{Clear, Clash, Unreported}
-use Rattle.paper.specs.Limits.{most_members, witness_words}
+use Rattle.paper.specs.Limits.{witness_words}
 use Rattle.paper.specs.Policy.{Policy}
-use Rattle.paper.specs.Table.{padded, entry_in, function_domains_in, policy_in, entry_count, well_formed}
+use Rattle.paper.specs.Table.{padded, entry_in, policy_in, entry_count, well_formed}
 use Rattle.paper.specs.Match.{Moment}
 use Rattle.paper.specs.Overlap.{BothMatch, NeverBoth, NotAfter, FirstClash, Says, entry_of_policy, witness_uid, witness_left}
 use Rattle.paper.specs.Promises.{report_refusal, Reported}
-use Rattle.overlap_cells.specs.Best.{Lows, InDomains}
+use Rattle.std.specs.Prelude.{Some as Present}
+use Rattle.std.proofs.lemmas.Option.{none-some}
+use Rattle.overlap_meeting.specs.Written.{depth_of}
 use Rattle.overlap_meeting.proofs.Best.{Some}
 use Rattle.overlap.specs.Clash.{pair_stack, table_stack}
-use Rattle.overlap.specs.Told.{Ready, NoneBefore, Clashing, FirstOfAll}
+use Rattle.overlap.specs.Told.{NoneBefore, Clashing, FirstOfAll}
 use Rattle.overlap.proofs.Clash.{clash_sound, clash_least}
-use Rattle.overlap.proofs.Words.{few_entries_lem, few_functions_lem, in_domains_lem, entry_read, entries_counted, context_free, pair_read, stack_short}
+use Rattle.overlap.proofs.Words.{depth_counted, entry_read, entries_counted, context_free, pair_read, stack_short}
 
 -- ---- of a policy: two entries clash exactly where `pair_stack` finds a stack
 pub no_stack_no_clash : (p : Policy) (i j : ℕ) → pair_stack p i j ≡ [] → NeverBoth p i j
@@ -34,9 +36,9 @@ pub none_before : (p : Policy) (i j : ℕ) (m : Moment) → BothMatch p i j m �
 unfolding pair_stack
 none_before p i j m both = (clash_least p (entry_of_policy p i) (entry_of_policy p j) m both.one both.other).1
 
-something_counted : (S : List ℕ) (r : ℕ) → r ≡ length S → (r ≡ 0 → ⊥) → Some S
-something_counted [] r e n = n e
-something_counted (x ∷ S) r e n = tt
+something_counted : (S : List ℕ) (r : ℕ) → Present r ≡ depth_of S → Some S
+something_counted [] r e = absurd (none-some _ (sym e))
+something_counted (x ∷ S) r e = tt
 
 pub take_left : (S old new : List ℕ) (r : ℕ) → r ≡ length S → new ≡ witness_left S old → take r new ≡ S
 unfolding witness_left padded
@@ -48,7 +50,7 @@ module _ (ws : List ℕ) (good : well_formed ws ≡ true) where
 
   module _ (old new : List ℕ) (i j depth : ℕ) (c : Clashing ws old new i j depth) where
     stack_held : take depth new ≡ table_stack ws i j
-    stack_held = take_left (table_stack ws i j) old new depth c.written.counted c.written.left
+    stack_held = take_left (table_stack ws i j) old new depth (depth_counted (table_stack ws i j) depth c.written.counted) c.written.left
 
     lower_listed : i < entry_count ws
     lower_listed = let a = c.ordered in let b = c.listed in omega arith
@@ -56,7 +58,7 @@ module _ (ws : List ℕ) (good : well_formed ws ≡ true) where
     both_match : BothMatch (policy_in ws) i j (record { stack = table_stack ws i j; uid = witness_uid (entry_in ws i) (entry_in ws j); gid = 0; namespace = 0 })
     unfolding table_stack policy_in
     both_match =
-        let some = something_counted (table_stack ws i j) depth c.written.counted c.some in
+        let some = something_counted (table_stack ws i j) depth c.written.counted in
         let s = clash_sound (policy_in ws) (entry_in ws i) (entry_in ws j) (context_free ws good i lower_listed) (context_free ws good j c.listed) some in
         record { one = rw (entry_read ws good i lower_listed) s.0; other = rw (entry_read ws good j c.listed) s.1 }
 
@@ -71,7 +73,7 @@ module _ (ws : List ℕ) (good : well_formed ws ≡ true) where
       first = λ x y h k b. let l : y < entry_count ws = rw (entries_counted ws) at k in never_both x y h l (c.first x y h l b);
       both = rw stack_held both_match;
       least = least;
-      short = let s = stack_short ws good i j lower_listed c.listed in let e = c.written.counted in omega arith;
+      short = let s = stack_short ws good i j lower_listed c.listed in let e = depth_counted (table_stack ws i j) depth c.written.counted in omega arith;
       left = rw stack_held c.written.left;
       uid_is = rw (entry_read ws good i lower_listed, entry_read ws good j c.listed);
       gid_is = refl;
@@ -91,24 +93,14 @@ module _ (ws : List ℕ) (t : Bool) (tested : t ≡ well_formed ws) where
   ill_formed old h = rw (← tested, not-true t h) (refl, refl)
 
   module _ (h : not t ≡ false) where
-    good : well_formed ws ≡ true
+    pub good : well_formed ws ≡ true
     good = sym tested ∙ not-false t h
-
-    module _ (functions : List ℕ) (e : functions ≡ function_domains_in ws) where
-      pub few_listed : length functions ≤ most_members
-      few_listed = rw e (few_functions_lem ws good)
-
-      pub listed_in_domains : InDomains functions
-      listed_in_domains = rw e (in_domains_lem ws good)
 
     pub no_room : (old : List ℕ) → length old < witness_words → Reported ws old old (Unreported 40)
     unfolding Reported report_refusal
     no_room old l = rw (good, lt-ltb (length old) witness_words l) (refl, refl)
 
     module _ (old : List ℕ) (room : witness_words ≤ length old) where
-      pub ready : (lows functions : List ℕ) → functions ≡ function_domains_in ws → Lows functions lows → Ready ws lows old
-      ready lows functions e lowest = record { formed = good; few = few_entries_lem ws good; lowest = rw (← e) lowest; room = room }
-
       module _ (new : List ℕ) (r : Report) (found : FirstOfAll ws old new r) where
         pub reported : Reported ws old new r
         unfolding Reported report_refusal

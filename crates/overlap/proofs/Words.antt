@@ -4,10 +4,12 @@ use native.Mathlib.Omega.{arith}
 use native.Mathlib.Nat.{zero-add}
 use mathlib.Core.Path.{◌≡◌, refl, sym, ◌∙◌}
 use mathlib.Core.Bool.{Bool, true, false, not}
-use mathlib.Core.List.{List, [], map}
+use mathlib.Core.List.{List, [], ◌∷◌, map}
 use lib.Dec.{eqb, ltb, leb}
 use lib.ListN.{length, get_or, length-take, length-map}
 use borrow.Author.Tests.{eq-eqb, ne_eqb, leb-true, ltb-true, le-leb, lt-leb, not-true, not-false}
+use Rattle.std.specs.Prelude.{Option, Some, None}
+use Rattle.std.proofs.lemmas.Option.{none-some, same_Some}
 use Rattle.paper.specs.Limits.{most_members, most_entries, most_elements, witness_words}
 use Rattle.paper.specs.Scalars.{sort_number}
 use Rattle.paper.specs.Table.{subject_at, uid_at, gid_at, namespace_at, gid_sorts, functions_at, entry_at, word, subject_domain_count, function_count, element_count, element_in, sort_in, entry_count}
@@ -18,8 +20,8 @@ use Rattle.laws.proofs.Tests.{both_left, both_right}
 use Rattle.laws.proofs.Counting.{all_of_at, length_map_counted, get_d_counted}
 use Rattle.laws_table.proofs.Formed.{formed, members_below}
 use Rattle.laws_table.proofs.Entries.{entry_context}
-use Rattle.overlap_cells.specs.Best.{InDomains, Lows, best_stack}
-use Rattle.overlap_meeting.specs.Written.{Fits, Written}
+use Rattle.overlap_cells.specs.Best.{InDomains, best_stack}
+use Rattle.overlap_meeting.specs.Written.{Fits, Written, depth_of}
 use Rattle.overlap.specs.Clash.{is_root, apart, may_clash, clash_stack, pair_stack, table_stack, Free}
 use Rattle.overlap.proofs.Clash.{clash_short}
 
@@ -41,7 +43,7 @@ apart_user (suc (suc (suc a))) (suc zero) n h = refl
 apart_user (suc (suc (suc a))) (suc (suc zero)) n h = refl
 apart_user (suc (suc (suc a))) (suc (suc (suc b))) n h = ne_eqb (suc (suc (suc b))) 2 (λ e. omega arith)
 
-pub apart_neither : (a b : ℕ) → (a ≡ 2 → ⊥) → a < 3 → false ≡ apart (sort_in a) (sort_in b)
+pub apart_neither : (a b : ℕ) → (a ≡ 2 → ⊥) → a < 3 → leb 3 a ≡ apart (sort_in a) (sort_in b)
 unfolding sort_in apart is_user is_root sort_number
 apart_neither zero b n h = refl
 apart_neither (suc zero) b n h = refl
@@ -98,16 +100,21 @@ module _ (ws : List ℕ) (i j a b : ℕ) (uidA : a ≡ word ws (entry_at i + uid
   may_clash_lem d e t f g same told = rw (told, uidA, uidB, eq-eqb _ _ (sym f ∙ (same ∙ g)))
 
 pub subjects_differ : (ws : List ℕ) (i j d e : ℕ) → d ≡ word ws (entry_at i + subject_at) → e ≡ word ws (entry_at j + subject_at) → (d ≡ e → ⊥) →
-    false ≡ may_clash (entry_in ws i) (entry_in ws j)
+    eqb d e ≡ may_clash (entry_in ws i) (entry_in ws j)
 unfolding may_clash entry_in
-subjects_differ ws i j d e f g n = rw (ne_eqb _ _ (λ h. n (f ∙ (h ∙ sym g))))
+subjects_differ ws i j d e f g n = rw (ne_eqb _ _ (λ h. n (f ∙ (h ∙ sym g))), ne_eqb d e n)
+
+-- ---- how many frames a stack has
+pub depth_counted : (S : List ℕ) (r : ℕ) → Some r ≡ depth_of S → r ≡ length S
+depth_counted [] r e = absurd (none-some _ (sym e))
+depth_counted (x ∷ S) r e = same_Some r (length (x ∷ S)) e
 
 -- ---- a well-formed table
 module _ (ws : List ℕ) (good : well_formed ws ≡ true) where
   pub few_entries_lem : entry_count ws ≤ most_entries
   few_entries_lem = (formed ws good).few_entries
 
-  pub few_functions_lem : length (function_domains_in ws) ≤ most_members
+  few_functions_lem : length (function_domains_in ws) ≤ most_members
   few_functions_lem = rw length-take (let l = (formed ws good).few_functions in omega arith)
 
   pub in_domains_lem : InDomains (function_domains_in ws)
@@ -120,6 +127,12 @@ module _ (ws : List ℕ) (good : well_formed ws ≡ true) where
       let below : get_or (function_domains_in ws) f 0 < subject_domain_count ws = ltb-true _ _ (all_of_at (λ d. ltb d (subject_domain_count ws)) 0 (function_domains_in ws) listed f h) in
       let domains = g.subject_domains in
       omega arith
+
+  pub functions_fit : (F : List ℕ) → F ≡ function_domains_in ws → (length F ≤ most_members) × InDomains F
+  functions_fit F e = rw e (few_functions_lem, in_domains_lem)
+
+  pub entry_listed : (k : ℕ) → k < entry_count ws → k ≤ most_entries
+  entry_listed k h = let few = few_entries_lem in omega arith
 
   module _ (k : ℕ) (h : k < entry_count ws) where
     context_good : context_fits ws (entry_at k) ≡ true
@@ -166,20 +179,17 @@ module _ (ws : List ℕ) (good : well_formed ws ≡ true) where
     pub parts_fit_lem : (p q witness : List ℕ) → p ≡ pattern_words_in ws (entry_at i) → q ≡ pattern_words_in ws (entry_at j) → witness_words ≤ length witness → Fits p q witness
     parts_fit_lem p q witness e f room = record { one = rw e (short_pattern i hi); other = rw f (short_pattern j hj); room = room }
 
-pub lows_of : (ws functions lows : List ℕ) → functions ≡ function_domains_in ws → Lows (function_domains_in ws) lows → Lows functions lows
-lows_of ws functions lows e lowest = rw e lowest
-
 pub entries_counted : (ws : List ℕ) → length (policy_in ws).entries ≡ entry_count ws
 unfolding policy_in
 entries_counted ws = length_map_counted (entry_in ws) 0 (entry_count ws)
 
 -- ---- the stack of a pair, written
 module _ (ws : List ℕ) (i j : ℕ) (t : Bool) (tested : t ≡ may_clash (entry_in ws i) (entry_in ws j)) (old new : List ℕ) where
-  pub none_written : not t ≡ true → new ≡ witness_left [] old → Written (table_stack ws i j) old new 0
+  pub none_written : not t ≡ true → new ≡ witness_left [] old → Written (table_stack ws i j) old new None
   unfolding table_stack clash_stack
   none_written h e = rw (← tested, not-true t h) (record { counted = refl; left = e })
 
-  pub clash_written : (p q functions : List ℕ) (d r : ℕ) → not t ≡ false → p ≡ pattern_words_in ws (entry_at i) → q ≡ pattern_words_in ws (entry_at j) → functions ≡ function_domains_in ws →
+  pub clash_written : (p q functions : List ℕ) (d : ℕ) (r : Option ℕ) → not t ≡ false → p ≡ pattern_words_in ws (entry_at i) → q ≡ pattern_words_in ws (entry_at j) → functions ≡ function_domains_in ws →
       d ≡ word ws (entry_at i + subject_at) → Written (best_stack functions d (map element_in p) (map element_in q)) old new r → Written (table_stack ws i j) old new r
   unfolding table_stack clash_stack entry_in context_in
   clash_written p q functions d r h e f g k w = rw (← tested, not-false t h, ← e, ← f, ← g, ← k) w

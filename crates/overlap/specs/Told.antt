@@ -1,22 +1,13 @@
 -- What the loops over the pairs of a table say.
-use Rattle.std.specs.Prelude.{ℕ, ◌<◌, ◌≤◌, ◌≡◌, true, List, [], length, drop}
+use Rattle.std.specs.Prelude.{ℕ, ◌<◌, ◌≡◌, List, [], Option, Some, None, drop}
 use Rattle.paper.specs.declared.Report.{Report}
 use Rattle.paper.specs.declared.Report.TheVariants.{Clear, Clash, Unreported}
-use Rattle.paper.specs.Limits.{most_entries, witness_words}
-use Rattle.paper.specs.Table.{entry_count, entry_in, function_domains_in, well_formed}
+use Rattle.paper.specs.Limits.{witness_words}
+use Rattle.paper.specs.Table.{entry_count, entry_in}
 use Rattle.paper.specs.Overlap.{PairBefore, witness_uid, witness_left}
-use Rattle.overlap_cells.specs.Best.{Lows}
 use Rattle.overlap_meeting.specs.Written.{Written}
-use Rattle.overlap.specs.declared.Found.{Found}
-use Rattle.overlap.specs.declared.Found.TheVariants.{Nothing, At}
+use Rattle.overlap.specs.declared.found.Found.{Found}
 use Rattle.overlap.specs.Clash.{table_stack}
-
--- the table is well formed, the lowest function of each domain is at hand, and the witness has room
-pub record Ready (ws lows witness : List ℕ) : Type 0 where
-  pub formed : well_formed ws ≡ true
-  pub few : entry_count ws ≤ most_entries
-  pub lowest : Lows (function_domains_in ws) lows
-  pub room : witness_words ≤ length witness
 
 -- no pair before these two clashes
 unfoldable pub NoneBefore : List ℕ → ℕ → ℕ → Type 0
@@ -30,14 +21,13 @@ PastKept old new = drop witness_words new ≡ drop witness_words old
 pub record Clashing (ws old new : List ℕ) (i j depth : ℕ) : Type 0 where
   pub ordered : i < j
   pub listed : j < entry_count ws
-  pub some : depth ≡ 0 → ⊥
-  pub written : Written (table_stack ws i j) old new depth
+  pub written : Written (table_stack ws i j) old new (Some depth)
   pub first : NoneBefore ws i j
 
 -- the first entry after entry i that clashes with it, where no pair before does
-abbrev pub FirstAfter : List ℕ → List ℕ → List ℕ → ℕ → Found → Type 0
-FirstAfter ws old new i Nothing = NoneBefore ws i (entry_count ws) × PastKept old new
-FirstAfter ws old new i (At j depth) = Clashing ws old new i j depth
+abbrev pub FirstAfter : List ℕ → List ℕ → List ℕ → ℕ → Option Found → Type 0
+FirstAfter ws old new i None = NoneBefore ws i (entry_count ws) × PastKept old new
+FirstAfter ws old new i (Some found) = Clashing ws old new i found.higher found.depth
 
 -- the first pair that clashes
 abbrev pub FirstOfAll : List ℕ → List ℕ → List ℕ → Report → Type 0

@@ -1,161 +1,123 @@
 -- The frames that elements meet, and the first elements of two patterns, from their words.
 use Prim.Native.Nat.{ℕ, ◌+◌, ◌-◌, ◌<◌, ◌≤◌}
-use native.Mathlib.Omega.{arith}
-use mathlib.Core.Logic.{◌⊎◌, inl, inr}
 use mathlib.Core.Path.{◌≡◌, refl, sym, ◌∙◌}
 use mathlib.Core.Bool.{Bool, true, false, cond, ◌&&◌, false≢true}
-use mathlib.Core.List.{List, [], ◌∷◌}
+use mathlib.Core.List.{List, [], ◌∷◌, cons≢nil}
 use lib.Dec.{eqb}
-use lib.ListN.{length, get_or}
-use borrow.Author.Tests.{eq-eqb, ne_eqb, lt-ltb, le-ltb}
-use Rattle.paper.specs.Policy.{Element}
+use lib.ListN.{length}
+use borrow.Author.Tests.{ne_eqb, lt-ltb, le-ltb}
+use denote.Bor.{Bor}
+use Rattle.std.specs.Prelude.{Option, Some, None, MatchOption, if◌then◌else◌}
+use Rattle.std.specs.Option.{option_eq}
+use Rattle.std.specs.List.{HoldsAt}
+use Rattle.paper.specs.Policy.{Element, all, fn, any_in}
 use Rattle.paper.specs.Match.{lies_in, matches, is_all}
 use Rattle.paper.specs.Table.{first_domain_word, element_in}
-use Rattle.laws.specs.Frames.{meets_frame}
-use Rattle.laws.proofs.Elements.{word_function, word_domain, word_single, at_element, at_end_lem}
-use Rattle.laws.proofs.Tests.{both_of, same_or_not}
-use Rattle.overlap_cells.specs.declared.Common.{Common}
-use Rattle.overlap_cells.specs.declared.Common.TheVariants.{At, Nothing}
-use Rattle.overlap_cells.specs.declared.Firsts.{Firsts}
-use Rattle.overlap_cells.specs.declared.Firsts.TheVariants.{BothAll, OneAll, OtherAll, Same, Apart}
-use Rattle.overlap_cells.specs.Best.{lowest_in, alone, lowest_frame, common_frame, frame_of, firsts_at, firsts_of}
+use Rattle.laws.proofs.Elements.{word_function, word_domain, at_element, at_end_lem}
+use Rattle.overlap_cells.specs.declared.element.Element.{Element as Told}
+use Rattle.overlap_cells.specs.declared.element.Element.TheVariants.{All, Function, Domain}
+use Rattle.overlap_cells.specs.declared.firsts.Firsts.{Firsts}
+use Rattle.overlap_cells.specs.declared.firsts.Firsts.TheVariants.{BothAll, OneAll, OtherAll, Same, Apart}
+use Rattle.overlap_cells.specs.Element.{meant}
+use Rattle.overlap_cells.specs.Best.{lowest_frame, common_frame, frame_of, firsts_at, firsts_of}
 use Rattle.overlap_cells.specs.Cells.{pattern_from, firsts_from}
 
 -- ---- whether a function lies in a domain
-module _ (F : List ℕ) (d f i : ℕ) (e : i ≡ f) where
-  pub not_listed : length F ≤ i → false ≡ lies_in F d f
-  unfolding lies_in
-  not_listed h = rw (← e, le-ltb i (length F) h)
+pub listed_there : (F : List ℕ) (d f : ℕ) (r : Option (Bor ℕ)) (t : Bool) (v : Bor ℕ) → t ≡ option_eq (λ x y. eqb x.now y.now) r (Some v) → v.now ≡ d →
+    MatchOption r (length F ≤ f) (λ x. (f < length F) × HoldsAt (λ y. x.now ≡ y) F f) → t ≡ lies_in F d f
+unfolding lies_in
+listed_there F d f None t v e same h = e ∙ sym (rw (le-ltb f (length F) h))
+listed_there F d f (Some x) t v e same h = e ∙ rw (lt-ltb f (length F) h.0, same, ← (h.1 0))
 
-  pub by_its_domain : i < length F → eqb (get_or F i 0) d ≡ lies_in F d f
-  unfolding lies_in
-  by_its_domain h = rw (← e, lt-ltb i (length F) h)
+-- ---- the element of a word
+module _ (w : ℕ) where
+  pub of_all : w ≡ 0 → all ≡ element_in w
+  unfolding element_in
+  of_all e = rw e
 
-pub where_last : (s t last : Bool) → t ≡ s → last ≡ true → t ≡ (s && last)
-where_last true t last e h = rw (h, e)
-where_last false t last e h = e
+  pub of_function : (w ≡ 0 → ⊥) → w < first_domain_word → fn (w - 1) ≡ element_in w
+  of_function n h = sym (word_function w n h)
 
-pub not_last : (s last : Bool) → last ≡ false → false ≡ (s && last)
-not_last true last h = sym h
-not_last false last h = refl
+  pub of_domain : first_domain_word ≤ w → any_in (w - first_domain_word) ≡ element_in w
+  of_domain h = sym (word_domain w h)
 
--- ---- the frames that the element of a word meets
-module _ (F : List ℕ) (w : ℕ) where
-  pub lowest_of_all : w ≡ 0 → frame_of Nothing ≡ lowest_frame F (element_in w)
-  unfolding frame_of lowest_frame element_in
-  lowest_of_all e = rw e
-
-  pub lowest_of_function : (w ≡ 0 → ⊥) → w < first_domain_word → frame_of (At (w - 1)) ≡ lowest_frame F (element_in w)
-  unfolding frame_of lowest_frame
-  lowest_of_function n h = rw (word_function w n h)
-
-  pub lowest_of_domain : (r : Common) → first_domain_word ≤ w → frame_of r ≡ alone F (lowest_in F (w - first_domain_word)) → frame_of r ≡ lowest_frame F (element_in w)
-  unfolding lowest_frame
-  lowest_of_domain r h e = rw (word_domain w h) e
-
-  module _ (f : ℕ) where
-    pub all_meets : w ≡ 0 → true ≡ meets_frame F (element_in w) f
-    unfolding meets_frame element_in
-    all_meets e = rw e
-
-    pub function_meets : (w ≡ 0 → ⊥) → w < first_domain_word → eqb (w - 1) f ≡ meets_frame F (element_in w) f
-    unfolding meets_frame
-    function_meets n h = rw (word_function w n h)
-
-    pub domain_meets : (t : Bool) → first_domain_word ≤ w → t ≡ lies_in F (w - first_domain_word) f → t ≡ meets_frame F (element_in w) f
-    unfolding meets_frame
-    domain_meets t h e = rw (word_domain w h) e
-
-pub met : (f : ℕ) (s t : Bool) → t ≡ s → t ≡ true → frame_of (At f) ≡ cond s (f ∷ []) []
+-- ---- a function that two elements both meet, where one of them is it
+pub met : (f : ℕ) (s t : Bool) (r : Option ℕ) → r ≡ if t then Some f else None → t ≡ s → frame_of r ≡ cond s (f ∷ []) []
 unfolding frame_of
-met f s t e h = rw (← e, h)
+met f true t r e h = rw (e, h)
+met f false t r e h = rw (e, h)
 
-pub not_met : (f : ℕ) (s t : Bool) → t ≡ s → t ≡ false → frame_of Nothing ≡ cond s (f ∷ []) []
-unfolding frame_of
-not_met f s t e h = rw (← e, h)
-
--- ---- two words
-module _ (F : List ℕ) (a b : ℕ) where
-  abbrev common : List ℕ
-  common = common_frame F (element_in a) (element_in b)
-
-  pub all_and_other : (r : Common) → a ≡ 0 → frame_of r ≡ lowest_frame F (element_in b) → frame_of r ≡ common
-  unfolding common_frame element_in
-  all_and_other r e h = rw e h
-
-  pub function_and_other : (r : Common) → (a ≡ 0 → ⊥) → a < first_domain_word → frame_of r ≡ cond (meets_frame F (element_in b) (a - 1)) ((a - 1) ∷ []) [] → frame_of r ≡ common
-  unfolding common_frame
-  function_and_other r n l h = rw (word_function a n l) h
-
-  module _ (l : first_domain_word ≤ a) where
-    pub domain_and_all : (r : Common) → b ≡ 0 → frame_of r ≡ lowest_frame F (element_in a) → frame_of r ≡ common
-    unfolding common_frame
-    domain_and_all r e h = rw (word_domain a l, e) (unfold element_in in (rw (word_domain a l) at h))
-
-    pub domain_and_function : (r : Common) → (b ≡ 0 → ⊥) → b < first_domain_word → frame_of r ≡ cond (meets_frame F (element_in a) (b - 1)) ((b - 1) ∷ []) [] → frame_of r ≡ common
-    unfolding common_frame meets_frame
-    domain_and_function r n m h = rw (word_domain a l, word_function b n m) (rw (word_domain a l) at h)
-
-    pub two_domains : first_domain_word ≤ b → (a ≡ b → ⊥) → frame_of Nothing ≡ common
-    unfolding common_frame frame_of
-    two_domains m n = rw (word_domain a l, word_domain b m, ne_eqb (a - first_domain_word) (b - first_domain_word) (λ e. n (omega arith)))
-
-    pub one_domain_lem : (r : Common) → a ≡ b → frame_of r ≡ lowest_frame F (element_in a) → frame_of r ≡ common
-    unfolding common_frame
-    one_domain_lem r e h =
-        rw (← e, word_domain a l, eq-eqb (a - first_domain_word) (a - first_domain_word) refl) (rw (word_domain a l) at h)
+pub other_domain : (F : List ℕ) (d e : ℕ) (t : Bool) → (d ≡ e → ⊥) → frame_of None ≡ common_frame F (any_in d) (any_in e)
+unfolding common_frame frame_of
+other_domain F d e t n = rw (ne_eqb d e n)
 
 -- ---- which are `all`
-pub is_all_lem : (w : ℕ) → w ≡ 0 → is_all (element_in w) ≡ true
-unfolding is_all element_in
-is_all_lem w e = rw e
+all_told : (a : Told) → a ≡ All → is_all (meant a) ≡ true
+unfolding is_all
+all_told a e = rw e
 
-pub other_decides : (a b : ℕ) → a ≡ 0 → eqb b 0 ≡ (is_all (element_in a) && is_all (element_in b))
-other_decides a b e = rw (is_all_lem a e) (go (same_or_not b 0))
-  where
-    go : (b ≡ 0) ⊎ (b ≡ 0 → ⊥) → eqb b 0 ≡ is_all (element_in b)
-    go (inl f) = rw (is_all_lem b f, eq-eqb b 0 f)
-    go (inr n) = rw (word_single b n, ne_eqb b 0 n)
+other_told : (a : Told) → (a ≡ All → ⊥) → is_all (meant a) ≡ false
+unfolding is_all
+other_told All n = absurd (n refl)
+other_told (Function f) n = refl
+other_told (Domain d) n = refl
 
-pub one_denies : (a b : ℕ) → (a ≡ 0 → ⊥) → false ≡ (is_all (element_in a) && is_all (element_in b))
-one_denies a b n = rw (word_single a n)
+all_only : (e : Element) → is_all e ≡ true → e ≡ all
+unfolding is_all
+all_only all h = refl
+all_only (fn f) h = absurd (false≢true h)
+all_only (any_in d) h = absurd (false≢true h)
 
-apart_at : (test : ℕ → Bool) (last s t : Bool) → (s && t) ≡ false → Apart ≡ firsts_at test s t [] last
-unfolding firsts_at
-apart_at test last true true e = absurd (false≢true (sym e))
-apart_at test last true false e = refl
-apart_at test last false true e = refl
-apart_at test last false false e = refl
+none_of_all : (F : List ℕ) → common_frame F all all ≡ []
+unfolding common_frame lowest_frame
+none_of_all F = refl
 
-module _ (F : List ℕ) (test : ℕ → Bool) (last : Bool) (a b : ℕ) (t : Bool) (both : t ≡ (is_all (element_in a) && is_all (element_in b))) where
+no_frame : {A : Type 0} (f : ℕ) (u : List ℕ) → f ∷ [] ≡ u → u ≡ [] → A
+no_frame f [] e h = absurd (cons≢nil e)
+no_frame f (x ∷ u) e h = absurd (cons≢nil h)
+
+-- ---- the first elements, from the frame that both meet
+module _ (F : List ℕ) (test : ℕ → Bool) (last : Bool) (a b : Told) where
   abbrev firsts : Firsts
-  firsts = firsts_of F test (element_in a) (element_in b) last
+  firsts = firsts_of F test (meant a) (meant b) last
 
-  pub firsts_both_all : t ≡ true → BothAll last ≡ firsts
+  pub firsts_both_all : a ≡ All → b ≡ All → BothAll last ≡ firsts
   unfolding firsts_of firsts_at
-  firsts_both_all e = let k = both_of (is_all (element_in a)) (is_all (element_in b)) (sym both ∙ e) in rw (k.0, k.1)
+  firsts_both_all e h = rw (all_told a e, all_told b h)
 
-  module _ (n : t ≡ false) (c : Common) (told : frame_of c ≡ common_frame F (element_in a) (element_in b)) where
-    pub firsts_apart : c ≡ Nothing → Apart ≡ firsts
-    unfolding firsts_of frame_of
-    firsts_apart e = let k : [] ≡ common_frame F (element_in a) (element_in b) = rw e at told in rw (← k) (apart_at test last _ _ (sym both ∙ n))
+  module _ (none : frame_of None ≡ common_frame F (meant a) (meant b)) where
+    pub firsts_apart_one : (a ≡ All → ⊥) → Apart ≡ firsts
+    unfolding firsts_of frame_of firsts_at
+    firsts_apart_one n = rw (other_told a n, ← none) (go (is_all (meant b)))
+      where
+        go : (t : Bool) → Apart ≡ firsts_at test false t [] last
+        go true = refl
+        go false = refl
 
-    module _ (f : ℕ) (found : c ≡ At f) (u : Bool) (lone : u ≡ (test f && last)) where
-      base : common_frame F (element_in a) (element_in b) ≡ f ∷ []
-      unfolding frame_of
-      base = sym (rw found at told)
+    pub firsts_apart_other : (b ≡ All → ⊥) → Apart ≡ firsts
+    unfolding firsts_of frame_of firsts_at
+    firsts_apart_other n = rw (other_told b n, ← none) (go (is_all (meant a)))
+      where
+        go : (t : Bool) → Apart ≡ firsts_at test t false [] last
+        go true = refl
+        go false = refl
 
-      pub firsts_one_all : a ≡ 0 → OneAll f u ≡ firsts
-      unfolding firsts_of firsts_at
-      firsts_one_all e = let k : is_all (element_in b) ≡ false = (rw (is_all_lem a e) at (sym both)) ∙ n in rw (base, is_all_lem a e, k, lone)
+  module _ (f : ℕ) (u : Bool) (told : frame_of (Some f) ≡ common_frame F (meant a) (meant b)) (lies : u ≡ test f) where
+    pub firsts_one_all : a ≡ All → OneAll f (u && last) ≡ firsts
+    unfolding firsts_of firsts_at frame_of
+    firsts_one_all e = go (is_all (meant b)) refl
+      where
+        go : (t : Bool) → is_all (meant b) ≡ t → OneAll f (u && last) ≡ firsts
+        go true h = no_frame f (common_frame F (meant a) (meant b)) told (rw (e, all_only (meant b) h) (none_of_all F))
+        go false h = rw (all_told a e, h, ← told, lies)
 
-      pub firsts_other_all : (a ≡ 0 → ⊥) → b ≡ 0 → OtherAll f u ≡ firsts
-      unfolding firsts_of firsts_at
-      firsts_other_all m e = rw (base, word_single a m, is_all_lem b e, lone)
+    pub firsts_other_all : (a ≡ All → ⊥) → b ≡ All → OtherAll f (u && last) ≡ firsts
+    unfolding firsts_of firsts_at frame_of
+    firsts_other_all n e = rw (other_told a n, all_told b e, ← told, lies)
 
-      pub firsts_same : (a ≡ 0 → ⊥) → (b ≡ 0 → ⊥) → Same f u ≡ firsts
-      unfolding firsts_of firsts_at
-      firsts_same m l = rw (base, word_single a m, word_single b l, lone)
+    pub firsts_same : (a ≡ All → ⊥) → (b ≡ All → ⊥) → Same f (u && last) ≡ firsts
+    unfolding firsts_of firsts_at frame_of
+    firsts_same n m = rw (other_told a n, other_told b m, ← told, lies)
 
 -- ---- two patterns from places i and j on
 nothing_other : (F : List ℕ) (test : ℕ → Bool) (P : List Element) → firsts_from F test P [] ≡ Apart
@@ -164,14 +126,18 @@ nothing_other F test [] = refl
 nothing_other F test (a ∷ P) = refl
 
 module _ (F : List ℕ) (test : ℕ → Bool) (p q : List ℕ) (i j : ℕ) where
-  pub one_ended : length p ≤ i → Apart ≡ firsts_from F test (pattern_from i p) (pattern_from j q)
+  abbrev from : Firsts
+  from = firsts_from F test (pattern_from i p) (pattern_from j q)
+
+  pub one_ended : length p ≤ i → Apart ≡ from
   unfolding firsts_from
   one_ended h = rw (at_end_lem p i h)
 
-  pub other_ended : length q ≤ j → Apart ≡ firsts_from F test (pattern_from i p) (pattern_from j q)
+  pub other_ended : length q ≤ j → Apart ≡ from
   other_ended h = rw (at_end_lem q j h, nothing_other F test (pattern_from i p))
 
-  pub firsts_read : (last : Bool) (r : Firsts) → i < length p → j < length q → last ≡ (matches F (pattern_from (i + 1) p) [] && matches F (pattern_from (j + 1) q) []) →
-      r ≡ firsts_of F test (element_in (get_or p i 0)) (element_in (get_or q j 0)) last → r ≡ firsts_from F test (pattern_from i p) (pattern_from j q)
+  pub firsts_read : (last : Bool) (r : Firsts) (x y : ℕ) (a b : Told) →
+      (i < length p) × HoldsAt (λ z. x ≡ z) p i → (j < length q) × HoldsAt (λ z. y ≡ z) q j → meant a ≡ element_in x → meant b ≡ element_in y →
+      last ≡ (matches F (pattern_from (i + 1) p) [] && matches F (pattern_from (j + 1) q) []) → r ≡ firsts_of F test (meant a) (meant b) last → r ≡ from
   unfolding firsts_from
-  firsts_read last r hi hj e f = rw (at_element p i hi, at_element q j hj, ← e) f
+  firsts_read last r x y a b h k f g e told = rw (at_element p i h.0, at_element q j k.0, ← (h.1 0), ← (k.1 0), ← f, ← g, ← e) told

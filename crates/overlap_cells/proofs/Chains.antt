@@ -1,66 +1,74 @@
--- Stacks that are chains of cells, B the base frame of each cell and R the cell of its rest.
+-- Stacks that are chains of cells, K the chain of each cell.
 use Prim.Native.Nat.{ℕ, zero, suc, ◌+◌, ◌-◌, ◌<◌, ◌≤◌}
 use native.Mathlib.Omega.{arith}
 use native.Mathlib.Numerals.{add-one, sub-one}
 use mathlib.Core.Path.{◌≡◌, refl, sym, ap, subst, ◌∙◌}
 use mathlib.Core.Bool.{Bool, true, false, cond, ◌||◌}
 use mathlib.Core.List.{List, [], ◌∷◌}
-use lib.ListN.{length, get_or}
-use lib.Dec.{ltb}
-use mir.Syntax.{w64}
-use mir.Val.{Fits}
-use borrow.Author.Tests.{eq-eqb, ne_eqb, lt-ltb, le-ltb}
-use Rattle.overlap_cells.specs.declared.Chain.{Chain}
-use Rattle.overlap_cells.specs.declared.Common.{Common}
-use Rattle.overlap_cells.specs.declared.Common.TheVariants.{At, Nothing}
-use Rattle.overlap_cells.specs.Best.{better, in_front, lower_or_same, comes_first, frame_of}
-use Rattle.overlap_cells.specs.Cells.{cells, stack_at, stack_of, chain_stack, Short, Forward, NoStack}
+use lib.ListN.{length, replicate}
+use lib.Dec.{eqb, ltb}
+use borrow.Author.Tests.{eq-eqb, ne_eqb, le-ltb}
+use Rattle.std.specs.Prelude.{Some, None}
+use Rattle.paper.specs.Limits.{witness_words}
+use Rattle.overlap_cells.specs.declared.chain.Chain.{Chain}
+use Rattle.overlap_cells.specs.Best.{frame_of, better, in_front, lower_or_same, comes_first}
+use Rattle.overlap_cells.specs.Places.{cells, last_cell}
+use Rattle.overlap_cells.specs.Cells.{cell_at, stack_at, stack_of, chain_stack, cell_stack}
 
-pub stack_length : (B R : List ℕ) (c n : ℕ) → length (stack_at B R c n) ≡ n
+pub stack_length : (K : List Chain) (c n : ℕ) → length (stack_at K c n) ≡ n
 unfolding stack_at
-stack_length B R c zero = refl
-stack_length B R c (suc n) = ap suc (stack_length B R (get_or R c 0) n)
+stack_length K c zero = refl
+stack_length K c (suc n) = ap suc (stack_length K (cell_at K c).rest n)
 
-pub stack_more : (B R : List ℕ) (c n : ℕ) → (n ≡ 0 → ⊥) → stack_at B R c n ≡ get_or B c 0 ∷ stack_at B R (get_or R c 0) (n - 1)
+pub stack_more : (K : List Chain) (c n : ℕ) → (n ≡ 0 → ⊥) → stack_at K c n ≡ (cell_at K c).base ∷ stack_at K (cell_at K c).rest (n - 1)
 unfolding stack_at
-stack_more B R c zero h = absurd (h refl)
-stack_more B R c (suc n) h = rw (sub-one (suc n))
+stack_more K c zero h = absurd (h refl)
+stack_more K c (suc n) h = rw (sub-one (suc n))
 
-pub cell_read : (B R : List ℕ) (c n : ℕ) → stack_of B R n (get_or B c 0) (get_or R c 0) ≡ stack_at B R c n
+pub cell_read : (K : List Chain) (c n : ℕ) → stack_of K n (cell_at K c).base (cell_at K c).rest ≡ stack_at K c n
 unfolding stack_at stack_of
-cell_read B R c zero = refl
-cell_read B R c (suc n) = refl
+cell_read K c zero = refl
+cell_read K c (suc n) = refl
 
-pub chain_length : (B R : List ℕ) (n f c : ℕ) → length (stack_of B R n f c) ≡ n
+pub chain_length : (K : List Chain) (n f c : ℕ) → length (stack_of K n f c) ≡ n
 unfolding stack_of
-chain_length B R zero f c = refl
-chain_length B R (suc n) f c = ap suc (stack_length B R c n)
+chain_length K zero f c = refl
+chain_length K (suc n) f c = ap suc (stack_length K c n)
 
-pub no_frames : (B R : List ℕ) (x : Chain) → NoStack x → chain_stack B R x ≡ []
+pub chain_more : (K : List Chain) (n f c : ℕ) → (n ≡ 0 → ⊥) → stack_of K n f c ≡ f ∷ stack_at K c (n - 1)
 unfolding stack_of
-no_frames B R x h = rw h.none
+chain_more K zero f c h = absurd (h refl)
+chain_more K (suc n) f c h = rw (sub-one (suc n))
 
-pub rest_inside : (R : List ℕ) (c : ℕ) → Forward R → get_or R c 0 < cells
-rest_inside R c f = f.inside c
+pub no_frames : (K : List Chain) (f c : ℕ) → stack_of K 0 f c ≡ []
+unfolding stack_of
+no_frames K f c = refl
 
-pub rest_onward : (R : List ℕ) (c : ℕ) → Forward R → c < cells → c ≤ get_or R c 0
-rest_onward R c f h = f.onward c h
+-- ---- cells before they are filled
+none_frames : (n c : ℕ) (x : Chain) → x.frames ≡ 0 → (cell_at (replicate n x) c).frames ≡ 0
+none_frames zero c x e = refl
+none_frames (suc n) zero x e = e
+none_frames (suc n) (suc c) x e = none_frames n c x e
 
-pub one_frame_more : (L : List ℕ) (c : ℕ) → Short L → Fits w64 (get_or L c 0 + 1)
-one_frame_more L c short = let h = short c in omega arith
+pub none_short : (n c : ℕ) (x : Chain) → x.frames ≡ 0 → (cell_at (replicate n x) c).frames ≤ witness_words
+none_short n c x e = let r = none_frames n c x e in omega arith
+
+pub none_there : (n c : ℕ) (x : Chain) → x.frames ≡ 0 → cell_stack (replicate n x) c ≡ []
+unfolding stack_at
+none_there n c x e = rw (none_frames n c x e)
+
+none_rest : (n c : ℕ) (x : Chain) → x.rest ≡ last_cell → (cell_at (replicate n x) c).rest ≡ last_cell
+none_rest zero c x e = refl
+none_rest (suc n) zero x e = e
+none_rest (suc n) (suc c) x e = none_rest n c x e
+
+pub none_onward : (n c : ℕ) (x : Chain) → x.rest ≡ last_cell → c < cells → c ≤ (cell_at (replicate n x) c).rest
+none_onward n c x e h = let r = none_rest n c x e in omega arith
 
 -- ---- two stacks frame by frame
-lower : (x y : ℕ) (u v : List ℕ) → x < y → lower_or_same (x ∷ u) (y ∷ v) ≡ true
-unfolding lower_or_same
-lower x y u v h = rw (lt-ltb x y h)
-
 as_the_rest : (x y : ℕ) (u v : List ℕ) → x ≡ y → lower_or_same (x ∷ u) (y ∷ v) ≡ lower_or_same u v
 unfolding lower_or_same
 as_the_rest x y u v e = rw (le-ltb x y (omega arith), eq-eqb x y e)
-
-higher : (x y : ℕ) (u v : List ℕ) → y < x → lower_or_same (x ∷ u) (y ∷ v) ≡ false
-unfolding lower_or_same
-higher x y u v h = rw (le-ltb x y (omega arith), ne_eqb x y (λ e. omega arith))
 
 first_decides : (x y : ℕ) (u v : List ℕ) → (x ≡ y → ⊥) → lower_or_same (x ∷ u) (y ∷ v) ≡ ltb x y
 unfolding lower_or_same
@@ -70,57 +78,52 @@ first_decides x y u v n = rw (ne_eqb x y n) (or_none (ltb x y))
     or_none true = refl
     or_none false = refl
 
--- the n frames from cells c and e on decide what those before did
-module _ (B R : List ℕ) (c e n : ℕ) (t : Bool) (so_far : t ≡ lower_or_same (stack_at B R c n) (stack_at B R e n)) where
-  pub frames_end : n ≤ 0 → true ≡ t
-  unfolding lower_or_same stack_at
-  frames_end h = let z : n ≡ 0 = omega arith in sym (rw z at so_far)
+-- the n frames from f and from g on decide what those before did
+module _ (K : List Chain) (f c g e n i : ℕ) (t : Bool) (so_far : t ≡ lower_or_same (stack_of K (n - i) f c) (stack_of K (n - i) g e)) where
+  pub frames_end : n ≤ i → true ≡ t
+  unfolding lower_or_same stack_of
+  frames_end h = let z : n - i ≡ 0 = omega arith in sym (rw z at so_far)
 
-  module _ (h : 0 < n) where
-    opened : t ≡ lower_or_same (get_or B c 0 ∷ stack_at B R (get_or R c 0) (n - 1)) (get_or B e 0 ∷ stack_at B R (get_or R e 0) (n - 1))
-    opened = rw (← (stack_more B R c n (λ z. omega arith)), ← (stack_more B R e n (λ z. omega arith))) so_far
+  module _ (h : i < n) where
+    opened : t ≡ lower_or_same (f ∷ stack_at K c (n - i - 1)) (g ∷ stack_at K e (n - i - 1))
+    opened = rw (← (chain_more K (n - i) f c (λ z. omega arith)), ← (chain_more K (n - i) g e (λ z. omega arith))) so_far
 
-    pub frame_lower : get_or B c 0 < get_or B e 0 → true ≡ t
-    frame_lower l = sym (opened ∙ lower _ _ _ _ l)
+    pub frame_decides : (f ≡ g → ⊥) → ltb f g ≡ t
+    frame_decides d = sym (opened ∙ first_decides f g _ _ d)
 
-    pub frame_higher : get_or B e 0 < get_or B c 0 → false ≡ t
-    frame_higher l = sym (opened ∙ higher _ _ _ _ l)
+    pub frame_same : (x y : Chain) → f ≡ g → x ≡ cell_at K c → y ≡ cell_at K e →
+        t ≡ lower_or_same (stack_of K (n - (i + 1)) x.base x.rest) (stack_of K (n - (i + 1)) y.base y.rest)
+    frame_same x y d p q =
+        let s : n - i - 1 ≡ n - (i + 1) = omega arith in
+        rw (p, q, cell_read K c (n - (i + 1)), cell_read K e (n - (i + 1)), ← s) (opened ∙ as_the_rest f g _ _ d)
 
-    pub frame_same : get_or B e 0 ≤ get_or B c 0 → get_or B c 0 ≤ get_or B e 0 → t ≡ lower_or_same (stack_at B R (get_or R c 0) (n - 1)) (stack_at B R (get_or R e 0) (n - 1))
-    frame_same l m = opened ∙ as_the_rest (get_or B c 0) (get_or B e 0) _ _ (omega arith)
+pub all_frames : (K : List Chain) (m n f c g e : ℕ) → m ≡ n →
+    lower_or_same (stack_of K m f c) (stack_of K n g e) ≡ lower_or_same (stack_of K (m - 0) f c) (stack_of K (m - 0) g e)
+all_frames K m n f c g e h = let s : m - 0 ≡ m = omega arith in rw (s, h)
 
 -- ---- two chains: of m frames, h at the base and c the rest; of n frames, g and e
-chain_more : (B R : List ℕ) (n f c : ℕ) → (n ≡ 0 → ⊥) → stack_of B R n f c ≡ f ∷ stack_at B R c (n - 1)
-unfolding stack_of
-chain_more B R zero f c h = absurd (h refl)
-chain_more B R (suc n) f c h = rw (sub-one (suc n))
-
-module _ (B R : List ℕ) (m h c n g e : ℕ) where
+module _ (K : List Chain) (m h c n g e : ℕ) where
   abbrev one : List ℕ
-  one = stack_of B R m h c
+  one = stack_of K m h c
 
   abbrev other : List ℕ
-  other = stack_of B R n g e
+  other = stack_of K n g e
 
   by_count : comes_first one other ≡ lower_or_same (m ∷ one) (n ∷ other)
   unfolding comes_first
-  by_count = rw (chain_length B R m h c, chain_length B R n g e)
+  by_count = rw (chain_length K m h c, chain_length K n g e)
 
-  pub count_decides : (m ≡ n → ⊥) → ltb m n ≡ comes_first one other
-  count_decides d = rw by_count (sym (first_decides m n one other d))
+  pub fewer : m < n → ltb m n ≡ comes_first one other
+  fewer l = sym (by_count ∙ first_decides m n one other (λ e. omega arith))
 
-  module _ (p : m ≡ 0 → ⊥) (q : n ≡ 0 → ⊥) (same : m ≡ n) where
-    by_base : comes_first one other ≡ lower_or_same (h ∷ stack_at B R c (m - 1)) (g ∷ stack_at B R e (n - 1))
-    by_base = by_count ∙ (as_the_rest m n one other same ∙ rw (chain_more B R m h c p, chain_more B R n g e q))
+  pub more : n ≤ m → (m ≡ n → ⊥) → eqb m n ≡ comes_first one other
+  more l d = sym (by_count ∙ (first_decides m n one other d ∙ (le-ltb m n l ∙ sym (ne_eqb m n d))))
 
-    pub base_decides : (h ≡ g → ⊥) → ltb h g ≡ comes_first one other
-    base_decides d = rw by_base (sym (first_decides h g (stack_at B R c (m - 1)) (stack_at B R e (n - 1)) d))
-
-    pub rest_decides : (t : Bool) → h ≡ g → t ≡ lower_or_same (stack_at B R c (m - 1)) (stack_at B R e (m - 1)) → t ≡ comes_first one other
-    rest_decides t d told = rw (by_base, as_the_rest h g (stack_at B R c (m - 1)) (stack_at B R e (n - 1)) d, ← same) told
+  pub as_many : (t : Bool) → m ≡ n → t ≡ lower_or_same one other → t ≡ comes_first one other
+  as_many t d told = told ∙ sym (by_count ∙ as_the_rest m n one other d)
 
 -- ---- the better of two stacks
-better_none : (u : List ℕ) → better comes_first u [] ≡ u
+pub better_none : (u : List ℕ) → better comes_first u [] ≡ u
 unfolding better
 better_none [] = refl
 better_none (x ∷ u) = refl
@@ -131,51 +134,44 @@ better_some [] v p q = absurd (p refl)
 better_some (x ∷ u) [] p q = absurd (q refl)
 better_some (x ∷ u) (y ∷ v) p q = refl
 
-module _ (B R : List ℕ) (m h c n g e : ℕ) where
-  pub better_second : m ≡ 0 → stack_of B R n g e ≡ better comes_first (stack_of B R m h c) (stack_of B R n g e)
+module _ (K : List Chain) (m h c n g e : ℕ) where
+  pub better_second : m ≡ 0 → stack_of K n g e ≡ better comes_first (stack_of K m h c) (stack_of K n g e)
   unfolding better stack_of
   better_second p = rw p
 
-  pub better_first : n ≡ 0 → stack_of B R m h c ≡ better comes_first (stack_of B R m h c) (stack_of B R n g e)
-  better_first p = subst (λ (k : ℕ). stack_of B R m h c ≡ better comes_first (stack_of B R m h c) (stack_of B R k g e)) (sym p) (sym (unfold stack_of in better_none (stack_of B R m h c)))
+  pub better_first : n ≡ 0 → stack_of K m h c ≡ better comes_first (stack_of K m h c) (stack_of K n g e)
+  better_first p = subst (λ (k : ℕ). stack_of K m h c ≡ better comes_first (stack_of K m h c) (stack_of K k g e)) (sym p) (sym (unfold stack_of in better_none (stack_of K m h c)))
 
-  module _ (p : m ≡ 0 → ⊥) (q : n ≡ 0 → ⊥) (t : Bool) (told : t ≡ comes_first (stack_of B R m h c) (stack_of B R n g e)) where
-    picked : better comes_first (stack_of B R m h c) (stack_of B R n g e) ≡ cond t (stack_of B R m h c) (stack_of B R n g e)
-    picked = rw told (better_some (stack_of B R m h c) (stack_of B R n g e) (λ z. p (sym (chain_length B R m h c) ∙ z)) (λ z. q (sym (chain_length B R n g e) ∙ z)))
+  module _ (p : m ≡ 0 → ⊥) (q : n ≡ 0 → ⊥) (t : Bool) (told : t ≡ comes_first (stack_of K m h c) (stack_of K n g e)) where
+    picked : better comes_first (stack_of K m h c) (stack_of K n g e) ≡ cond t (stack_of K m h c) (stack_of K n g e)
+    picked = rw told (better_some (stack_of K m h c) (stack_of K n g e) (λ z. p (sym (chain_length K m h c) ∙ z)) (λ z. q (sym (chain_length K n g e) ∙ z)))
 
-    pub better_comes_first : t ≡ true → stack_of B R m h c ≡ better comes_first (stack_of B R m h c) (stack_of B R n g e)
+    pub better_comes_first : t ≡ true → stack_of K m h c ≡ better comes_first (stack_of K m h c) (stack_of K n g e)
     better_comes_first s = sym (rw s at picked)
 
-    pub better_comes_after : t ≡ false → stack_of B R n g e ≡ better comes_first (stack_of B R m h c) (stack_of B R n g e)
+    pub better_comes_after : t ≡ false → stack_of K n g e ≡ better comes_first (stack_of K m h c) (stack_of K n g e)
     better_comes_after s = sym (rw s at picked)
 
 -- ---- a function in front
-module _ (B R : List ℕ) (t : Bool) (a c n : ℕ) where
-  pub front_alone : t ≡ true → stack_of B R 1 a c ≡ in_front t a (stack_at B R c n)
+module _ (K : List Chain) (t : Bool) (a c n : ℕ) where
+  pub front_alone : (x : Chain) → t ≡ true → x.frames ≡ 1 → x.base ≡ a → chain_stack K x ≡ in_front t a (stack_at K c n)
   unfolding stack_of stack_at in_front
-  front_alone e = rw e
+  front_alone x e f g = rw (e, f, g)
 
-  pub front_none : (x : Chain) → t ≡ false → n ≡ 0 → NoStack x → chain_stack B R x ≡ in_front t a (stack_at B R c n)
-  unfolding stack_at in_front
-  front_none x e k h = rw (e, k) (no_frames B R x h)
+  pub front_none : (f d : ℕ) → t ≡ false → n ≡ 0 → stack_of K 0 f d ≡ in_front t a (stack_at K c n)
+  unfolding stack_at stack_of in_front
+  front_none f d e k = rw (e, k)
 
-  pub front_more : t ≡ false → (n ≡ 0 → ⊥) → stack_of B R (n + 1) a c ≡ in_front t a (stack_at B R c n)
+  pub front_more : t ≡ false → (n ≡ 0 → ⊥) → stack_of K (n + 1) a c ≡ in_front t a (stack_at K c n)
   unfolding stack_of in_front
-  front_more e k = rw (e, add-one n, stack_more B R c n k)
-
--- ---- a chain where it may be there
-pub there : (t : Bool) (u : List ℕ) → t ≡ true → u ≡ cond t u []
-there t u e = rw e
-
-pub not_there : (t : Bool) (u r : List ℕ) → t ≡ false → r ≡ [] → r ≡ cond t u []
-not_there t u r e h = rw (e, h)
+  front_more e k = rw (e, add-one n, stack_more K c n k)
 
 -- ---- a frame alone
-module _ (B R u : List ℕ) (c : Common) (told : frame_of c ≡ u) where
-  pub lone_frame : (f n : ℕ) → c ≡ At f → stack_of B R 1 f n ≡ u
+module _ (K : List Chain) (u : List ℕ) where
+  pub lone_frame : (f : ℕ) (x : Chain) → frame_of (Some f) ≡ u → x.frames ≡ 1 → x.base ≡ f → chain_stack K x ≡ u
   unfolding frame_of stack_of stack_at
-  lone_frame f n e = rw e at told
+  lone_frame f x told e g = rw (e, g) told
 
-  pub no_lone_frame : (x : Chain) → c ≡ Nothing → NoStack x → chain_stack B R x ≡ u
-  unfolding frame_of
-  no_lone_frame x e h = no_frames B R x h ∙ (rw e at told)
+  pub no_lone_frame : (f c : ℕ) → frame_of None ≡ u → stack_of K 0 f c ≡ u
+  unfolding frame_of stack_of
+  no_lone_frame f c told = told

@@ -1,7 +1,7 @@
 -- A pattern from a place on against the empty stack.
 use Prim.Native.Nat.{ℕ, zero, suc, ◌+◌, ◌-◌, ◌<◌, ◌≤◌}
 use native.Mathlib.Omega.{arith}
-use native.Mathlib.Nat.{add-zero, eq-or-lt_of_le}
+use native.Mathlib.Nat.{add-zero}
 use mathlib.Core.Logic.{⊎_elim}
 use mathlib.Core.Path.{◌≡◌, refl, sym, ◌∙◌}
 use mathlib.Core.Bool.{Bool, true, false, ◌&&◌, false≢true}
@@ -12,7 +12,8 @@ use borrow.Author.Tests.{eqb-true, eqb-false, le-leb, lt-leb}
 use Rattle.paper.specs.Match.{swallowing, first_meets, matches}
 use Rattle.laws.proofs.Elements.{at_all, at_single, at_end_lem}
 use Rattle.laws.proofs.Tests.{le_or_lt}
-use Rattle.overlap_cells.specs.Cells.{pattern_from, OnlyAllFrom}
+use Rattle.std.specs.Prelude.{EachIndex}
+use Rattle.overlap_cells.specs.Cells.{pattern_from, OnlyAllFrom, EndsAt}
 
 module _ (F p : List ℕ) (i : ℕ) where
   -- the pattern from place i on matches the empty stack
@@ -46,45 +47,35 @@ module _ (F p : List ℕ) where
   ends_later i zero h = rw add-zero h
   ends_later i (suc n) h = let e : i + suc n ≡ i + n + 1 = omega arith in rw e (ends_next (i + n) (ends_later i n h))
 
--- ---- the loop: from place k on it matches the empty stack
-module _ (p : List ℕ) where
-  unfoldable pub EndedFrom : ℕ → Type 0
-  EndedFrom k = (F : List ℕ) (i : ℕ) → k ≤ i → ends F p i ≡ true
+module _ (p : List ℕ) (k : ℕ) (zeros : (i : ℕ) → k ≤ i → i < length p → get_or p i 0 ≡ 0) where
+  -- from place k on there is only `all`: n places at most are left from place i on
+  ended : (F : List ℕ) (n i : ℕ) → length p ≤ i + n → k ≤ i → ends F p i ≡ true
+  ended F zero i h l = ends_at_end F p i (omega arith)
+  ended F (suc n) i h l =
+      ⊎_elim (λ o. ends_at_end F p i o) (λ o. ends_past_all F p i o (zeros i l o) ∙ ended F n (i + 1) (omega arith) (omega arith)) (le_or_lt (length p) i)
 
-  pub ended_at_end : EndedFrom (length p)
-  unfolding EndedFrom
-  ended_at_end F i h = ends_at_end F p i h
+  ended_from : (F : List ℕ) (i : ℕ) → k ≤ i → ends F p i ≡ true
+  ended_from F i l = ended F (length p) i (omega arith) l
 
-  module _ (k : ℕ) (so_far : EndedFrom k) where
-    pub all_from_start : k ≤ 0 → OnlyAllFrom p k
-    unfolding EndedFrom OnlyAllFrom
-    all_from_start h F i = so_far F i (omega arith) ∙ sym (le-leb k i (omega arith))
+pub all_from_start : (p : List ℕ) → EachIndex p (λ k. get_or p k 0 ≡ 0) → OnlyAllFrom p 0
+unfolding OnlyAllFrom
+all_from_start p zeros F i = ended_from p 0 (λ k l h. zeros k h) F i (omega arith) ∙ sym (le-leb 0 i (omega arith))
 
-    module _ (l : 0 < k) (m : k ≤ length p) where
-      pub ended_before : get_or p (k - 1) 0 ≡ 0 → EndedFrom (k - 1)
-      unfolding EndedFrom
-      ended_before e F i h =
-          ⊎_elim (λ f. rw (← f) (ends_past_all F p (k - 1) (omega arith) e ∙ so_far F (k - 1 + 1) (omega arith))) (λ g. so_far F i (omega arith)) (eq-or-lt_of_le h)
+module _ (p : List ℕ) (k : ℕ) (last : EndsAt p k) where
+  not_ended : (F : List ℕ) (i : ℕ) → i < k + 1 → (t : Bool) → ends F p i ≡ t → t ≡ false
+  not_ended F i h true e =
+      let f : i + (k - i) ≡ k = omega arith in
+      sym (rw f at (ends_later F p i (k - i) e)) ∙ ends_not F p k last.0 last.1
+  not_ended F i h false e = refl
 
-      not_ended : (get_or p (k - 1) 0 ≡ 0 → ⊥) → (F : List ℕ) (i : ℕ) → i < k → (t : Bool) → ends F p i ≡ t → t ≡ false
-      not_ended n F i h true e =
-          let f : i + (k - 1 - i) ≡ k - 1 = omega arith in
-          sym (rw f at (ends_later F p i (k - 1 - i) e)) ∙ ends_not F p (k - 1) (omega arith) n
-      not_ended n F i h false e = refl
-
-      pub all_from_function : (get_or p (k - 1) 0 ≡ 0 → ⊥) → OnlyAllFrom p k
-      unfolding EndedFrom OnlyAllFrom
-      all_from_function n F i =
-          ⊎_elim (λ h. so_far F i h ∙ sym (le-leb k i h)) (λ h. not_ended n F i h (ends F p i) refl ∙ sym (lt-leb k i h)) (le_or_lt k i)
+  pub all_from_next : OnlyAllFrom p (k + 1)
+  unfolding OnlyAllFrom
+  all_from_next F i =
+      ⊎_elim (λ h. ended_from p (k + 1) (λ j l m. last.2 j (omega arith) m) F i h ∙ sym (le-leb (k + 1) i h))
+      (λ h. not_ended F i h (ends F p i) refl ∙ sym (lt-leb (k + 1) i h)) (le_or_lt (k + 1) i)
 
 -- ---- two patterns
 pub both_end : (F P Q : List ℕ) (x y i j : ℕ) (t : Bool) → OnlyAllFrom P x → OnlyAllFrom Q y → t ≡ (leb x i && leb y j) →
     t ≡ (matches F (pattern_from i P) [] && matches F (pattern_from j Q) [])
 unfolding OnlyAllFrom
 both_end F P Q x y i j t f g h = rw (f F i, g F j) h
-
-pub second_decides : (x y i j : ℕ) → x ≤ i → leb y j ≡ (leb x i && leb y j)
-second_decides x y i j h = rw (le-leb x i h)
-
-pub first_denies : (x y i j : ℕ) → i < x → false ≡ (leb x i && leb y j)
-first_denies x y i j h = rw (lt-leb x i h)

@@ -1,13 +1,12 @@
 -- The stacks that two patterns both match with a top frame that passes a test, and the best of them. [] says that there is none.
-use Rattle.std.specs.Prelude.{ℕ, ◌+◌, ◌-◌, ◌<◌, max, ◌≡◌, Bool, true, false, ◌&&◌, ◌||◌, cond, List, [], ◌∷◌, eqb, ltb, length, get_or}
+use Rattle.std.specs.Prelude.{ℕ, ◌+◌, ◌-◌, ◌<◌, max, ◌≡◌, Bool, true, false, ◌&&◌, ◌||◌, cond, List, [], ◌∷◌, Option, Some, None, eqb, ltb, length, get_or}
+use Rattle.std.proofs.Props.{props}
 use Rattle.paper.specs.Limits.{most_domains}
 use Rattle.paper.specs.Policy.{Element, all, fn, any_in}
 use Rattle.paper.specs.Match.{is_listed, lies_in, matches, is_all}
 use Rattle.laws.specs.Frames.{meets_frame}
-use Rattle.overlap_cells.specs.declared.Common.{Common}
-use Rattle.overlap_cells.specs.declared.Common.TheVariants.{At, Nothing}
-use Rattle.overlap_cells.specs.declared.Firsts.{Firsts}
-use Rattle.overlap_cells.specs.declared.Firsts.TheVariants.{BothAll, OneAll, OtherAll, Same, Apart}
+use Rattle.overlap_cells.specs.declared.firsts.Firsts.{Firsts}
+use Rattle.overlap_cells.specs.declared.firsts.Firsts.TheVariants.{BothAll, OneAll, OtherAll, Same, Apart}
 
 -- the top frame, which is the last, passes the test
 unfoldable pub top_passes : (ℕ → Bool) → List ℕ → Bool
@@ -63,17 +62,21 @@ common_frame functions (any_in d) (fn g) = cond (lies_in functions d g) (g ∷ [
 common_frame functions (any_in d) (any_in e) = cond (eqb d e) (lowest_frame functions (any_in d)) []
 
 -- the frame that the code tells, as such a stack
-unfoldable pub frame_of : Common → List ℕ
-frame_of (At f) = f ∷ []
-frame_of Nothing = []
+unfoldable pub frame_of : Option ℕ → List ℕ
+frame_of (Some f) = f ∷ []
+frame_of None = []
 
 -- each function lies in one of the domains that a table may have
 unfoldable pub InDomains : List ℕ → Type 0
 InDomains functions = (f : ℕ) → f < length functions → get_or functions f 0 < most_domains
 
 -- lows has the lowest function of each domain; past its end are domains without functions
-unfoldable pub Lows : List ℕ → List ℕ → Type 0
-Lows functions lows = (d : ℕ) → get_or lows d (length functions) ≡ lowest_in functions d
+unfoldable pub Lows : List ℕ → List (Option ℕ) → Type 0
+Lows functions lows = (d : ℕ) → frame_of (get_or lows d None) ≡ alone functions (lowest_in functions d)
+
+pub Lows-prop : (functions : List ℕ) (lows : List (Option ℕ)) → IsProp (Lows functions lows)
+unfolding Lows
+Lows-prop functions lows = hlevel props
 
 -- two first elements, by which are `all` and by the base frame that both meet.
 -- last: what comes after them matches the empty stack, so that a function that passes the test may be alone

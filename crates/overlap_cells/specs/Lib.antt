@@ -1,2 +1,4 @@
+pub mod Element
+pub mod Places
 pub mod Best
 pub mod Cells

@@ -1,46 +1,58 @@
--- What a cell holds, from the cells after it; L is how many frames the stack of each cell has, B its base frame, R the cell of its rest.
+-- What a cell holds, from the cells after it; K is the chain of each cell.
 use Prim.Native.Nat.{ℕ, zero, suc, ◌+◌, ◌-◌, ◌/◌, ◌%◌, ◌<◌, ◌≤◌}
 use native.Mathlib.Omega.{arith}
 use native.Mathlib.Nat.{eq-or-lt_of_le}
-use mathlib.Core.Logic.{◌⊎◌, inl, inr, ⊎_elim, ◌≢◌}
+use mathlib.Core.Logic.{◌⊎◌, inl, inr, ⊎_elim}
 use mathlib.Core.Path.{◌≡◌, refl, sym, ap, subst, subst₂, ◌∙◌}
-use mathlib.Core.Bool.{Bool, cond}
+use mathlib.Core.Bool.{Bool, true, false}
 use mathlib.Core.List.{List, [], ◌∷◌, map}
-use lib.ListN.{length, get_or, drop, set, length-drop, length-map}
-use lib.Seq.{get_or-set_same, get_or-set_other, drop-drop}
+use lib.ListN.{length, drop, length-drop, length-map}
+use lib.Seq.{drop-drop}
 use Rattle.paper.specs.Limits.{most_elements, witness_words}
 use Rattle.paper.specs.Policy.{Element}
 use Rattle.paper.specs.Match.{lies_in}
 use Rattle.paper.specs.Table.{element_in}
-use Rattle.laws.proofs.Tests.{le_or_lt, same_or_not}
+use Rattle.laws.proofs.Tests.{le_or_lt}
 use Rattle.laws.proofs.Elements.{at_end_lem}
-use Rattle.overlap_cells.specs.declared.Firsts.{Firsts}
-use Rattle.overlap_cells.specs.declared.Firsts.TheVariants.{BothAll, OneAll, OtherAll, Same, Apart}
+use Rattle.overlap_cells.specs.declared.chain.Chain.{Chain}
+use Rattle.overlap_cells.specs.declared.firsts.Firsts.{Firsts}
+use Rattle.overlap_cells.specs.declared.firsts.Firsts.TheVariants.{BothAll, OneAll, OtherAll, Same, Apart}
 use Rattle.overlap_cells.specs.Best.{better, in_front, best_with, row, best_by, comes_first, lowest_in, alone, best_stack}
-use Rattle.overlap_cells.specs.Cells.{places, filled, cells, pattern_from, firsts_from, stack_at, stack_of, cell_stack, from_cells, Forward, Filled}
+use Rattle.overlap_cells.specs.Places.{places, filled, cells}
+use Rattle.overlap_cells.specs.Cells.{pattern_from, firsts_from, cell_at, stack_at, stack_of, chain_stack, cell_stack, from_cells, Onward, Filled}
 use Rattle.overlap_meeting.proofs.Order.{best_short}
-use Rattle.overlap_cells.proofs.Chains.{cell_read, chain_length}
+use Rattle.overlap_cells.proofs.Chains.{cell_read, chain_length, better_none}
 use Rattle.overlap_cells.proofs.Beginnings.{other_ended}
 
 -- ---- by the first elements
-module _ (low both one other r : List ℕ) (x : Firsts) where
+module _ (K : List Chain) (low r : List ℕ) (x : Firsts) (k : ℕ) where
   abbrev best : List ℕ
-  best = best_with comes_first low x both one other
+  best = from_cells x low K k
 
-  pub cell_both_all : (t : Bool) (u v w z : List ℕ) → x ≡ BothAll t → r ≡ better comes_first z w → z ≡ better comes_first u v → u ≡ one → v ≡ other → w ≡ cond t low [] → r ≡ best
-  unfolding best_with
-  cell_both_all t u v w z e h k a b c = rw (e, ← c, ← b, ← a, ← k) h
+  at_cell : (c : ℕ) (y : Chain) → y ≡ cell_at K c → chain_stack K y ≡ cell_stack K c
+  at_cell c y e = rw e (cell_read K c (cell_at K c).frames)
+
+  module _ (t : Bool) (u v : Chain) (e : x ≡ BothAll t) (a : u ≡ cell_at K (k + places)) (b : v ≡ cell_at K (k + 1)) where
+    pub cell_both_all : t ≡ false → r ≡ better comes_first (chain_stack K u) (chain_stack K v) → r ≡ best
+    unfolding best_with
+    cell_both_all f h = rw (e, f, better_none, ← (at_cell (k + places) u a), ← (at_cell (k + 1) v b)) h
+
+    pub cell_alone : (z : List ℕ) → t ≡ true → r ≡ better comes_first z low → z ≡ better comes_first (chain_stack K u) (chain_stack K v) → r ≡ best
+    unfolding best_with
+    cell_alone z f h g = rw (e, f, ← (at_cell (k + places) u a), ← (at_cell (k + 1) v b), ← g) h
 
   module _ (f : ℕ) (t : Bool) where
-    pub cell_one_all : (u v : List ℕ) → x ≡ OneAll f t → r ≡ better comes_first u v → u ≡ one → v ≡ in_front t f other → r ≡ best
+    pub cell_one_all : (u : Chain) (v : List ℕ) → x ≡ OneAll f t → r ≡ better comes_first (chain_stack K u) v →
+        u ≡ cell_at K (k + places) → v ≡ in_front t f (cell_stack K (k + 1)) → r ≡ best
     unfolding best_with
-    cell_one_all u v e h a b = rw (e, ← a, ← b) h
+    cell_one_all u v e h a b = rw (e, ← (at_cell (k + places) u a), ← b) h
 
-    pub cell_other_all : (u v : List ℕ) → x ≡ OtherAll f t → r ≡ better comes_first u v → u ≡ other → v ≡ in_front t f one → r ≡ best
+    pub cell_other_all : (u : Chain) (v : List ℕ) → x ≡ OtherAll f t → r ≡ better comes_first (chain_stack K u) v →
+        u ≡ cell_at K (k + 1) → v ≡ in_front t f (cell_stack K (k + places)) → r ≡ best
     unfolding best_with
-    cell_other_all u v e h a b = rw (e, ← a, ← b) h
+    cell_other_all u v e h a b = rw (e, ← (at_cell (k + 1) u a), ← b) h
 
-    pub cell_same : x ≡ Same f t → r ≡ in_front t f both → r ≡ best
+    pub cell_same : x ≡ Same f t → r ≡ in_front t f (cell_stack K (k + places + 1)) → r ≡ best
     unfolding best_with
     cell_same e h = rw e h
 
@@ -89,13 +101,15 @@ module _ (F : List ℕ) (d : ℕ) (P Q : List ℕ) where
   apart_none i j e = rw (from_step i j, e)
 
 -- ---- one more cell
-module _ (F : List ℕ) (d : ℕ) (P Q L B R : List ℕ) (k : ℕ) (after : Filled F d P Q L B R (k + 1)) (hk : k < filled) (hq : length Q ≤ most_elements) where
+module _ (F : List ℕ) (d : ℕ) (P Q : List ℕ) (K : List Chain) (k : ℕ) (after : Filled F d P Q K (k + 1)) (hk : k < filled) (hq : length Q ≤ most_elements) where
   -- the stack of a cell after k
-  found : (c x y : ℕ) → k < c → c < cells → c / places ≡ x → c % places ≡ y → cell_stack L B R c ≡ from F d P Q x y
-  found c x y l h u v = subst₂ (λ (x y : ℕ). cell_stack L B R c ≡ from F d P Q x y) u v (after.right c (omega arith) h)
+  found : (c x y : ℕ) → k < c → c < cells → c / places ≡ x → c % places ≡ y → cell_stack K c ≡ from F d P Q x y
+  unfolding Filled
+  found c x y l h u v = subst₂ (λ (x y : ℕ). cell_stack K c ≡ from F d P Q x y) u v (after c (omega arith) h)
 
   -- past the last place of Q there is none, whatever the cells hold
-  cell_right : (x : Firsts) (r low : List ℕ) → x ≡ firsts F d P Q (k / places) (k % places) → low ≡ alone F (lowest_in F d) → r ≡ from_cells x low L B R k → r ≡ from F d P Q (k / places) (k % places)
+  cell_right : (x : Firsts) (r low : List ℕ) → x ≡ firsts F d P Q (k / places) (k % places) → low ≡ alone F (lowest_in F d) →
+      r ≡ from_cells x low K k → r ≡ from F d P Q (k / places) (k % places)
   unfolding best_with
   cell_right x r low e f g = ⊎_elim at_end_of_row inside_row (le_or_lt most_elements (k % places))
     where
@@ -111,75 +125,58 @@ module _ (F : List ℕ) (d : ℕ) (P Q L B R : List ℕ) (k : ℕ) (after : Fill
           let other = found (k + 1) (k / places) (k % places + 1) (omega arith) (omega arith) (omega arith) (omega arith) in
           g ∙ (rw (e, f, both, one, other) (sym (from_step F d P Q (k / places) (k % places))))
 
-module _ (B R : List ℕ) (k h c : ℕ) (forward : Forward R) where
-  -- a store at k leaves the stacks of the cells after k as they are
-  stable : (x n : ℕ) → k < x → x < cells → stack_at (set B k h) (set R k c) x n ≡ stack_at B R x n
+-- a store at k leaves the stacks of the cells after k as they are
+module _ (K M : List Chain) (k : ℕ) (y : Chain) (there : cell_at M k ≡ y) (others : (c : ℕ) → (c ≡ k → ⊥) → cell_at M c ≡ cell_at K c) (onward : Onward K) where
+  stable : (x n : ℕ) → k < x → x < cells → stack_at M x n ≡ stack_at K x n
   unfolding stack_at
   stable x zero l b = refl
   stable x (suc n) l b =
-      let ne : x ≢ k = (λ e. omega arith) in
-      let a = forward.onward x b in
-      rw (get_or-set_other B k x h 0 ne, get_or-set_other R k x c 0 ne)
-      (ap (λ (r : List ℕ). get_or B x 0 ∷ r) (stable (get_or R x 0) n (omega arith) (forward.inside x)))
+      let e = others x (λ e. omega arith) in
+      let a = onward x b in
+      rw e (ap (λ (r : List ℕ). (cell_at K x).base ∷ r) (stable (cell_at K x).rest n (omega arith) (cell_at K x).inside))
 
-  stable_chain : (n g y : ℕ) → k < y → y < cells → stack_of (set B k h) (set R k c) n g y ≡ stack_of B R n g y
-  unfolding stack_of
-  stable_chain zero g y l b = refl
-  stable_chain (suc n) g y l b = ap (λ (r : List ℕ). g ∷ r) (stable y n l b)
+  stable_cell : (x : ℕ) → k < x → x < cells → cell_stack M x ≡ cell_stack K x
+  stable_cell x l b = let e = others x (λ e. omega arith) in rw e (stable x (cell_at K x).frames l b)
 
-module _ (F : List ℕ) (d : ℕ) (P Q L B R : List ℕ) (k n h c : ℕ) (after : Filled F d P Q L B R (k + 1)) (hk : k < filled)
-    (hl : length L ≡ cells) (hb : length B ≡ cells) (hr : length R ≡ cells)
-    (this : stack_of B R n h c ≡ from F d P Q (k / places) (k % places)) (far : k < c) (inside : c < cells) (few : n ≤ witness_words) where
-  abbrev stored : ℕ → List ℕ
-  stored x = cell_stack (set L k n) (set B k h) (set R k c) x
+  stored : (n : ℕ) → k < y.rest → stack_at M k n ≡ stack_of K n y.base y.rest
+  unfolding stack_at stack_of
+  stored zero l = refl
+  stored (suc n) l = rw there (ap (λ (r : List ℕ). y.base ∷ r) (stable y.rest n l y.inside))
 
-  more_right : (x : ℕ) → (k ≡ x) ⊎ (k < x) → x < cells → stored x ≡ from F d P Q (x / places) (x % places)
-  more_right x (inl e) b =
-      subst (λ (x : ℕ). stored x ≡ from F d P Q (x / places) (x % places)) e
-      (rw (get_or-set_same L k n 0 (omega arith))
-      (sym (cell_read (set B k h) (set R k c) k n)
-      ∙ rw (get_or-set_same B k h 0 (omega arith), get_or-set_same R k c 0 (omega arith)) (stable_chain B R k h c after.forward n h c far inside ∙ this)))
-  more_right x (inr l) b =
-      rw (get_or-set_other L k x n 0 (λ e. omega arith)) (stable B R k h c after.forward x (get_or L x 0) l b ∙ after.right x (omega arith) b)
-
-  more_short : (x : ℕ) → (x ≡ k) ⊎ (x ≡ k → ⊥) → get_or (set L k n) x 0 ≤ witness_words
-  more_short x (inl e) = rw e (rw (get_or-set_same L k n 0 (omega arith)) few)
-  more_short x (inr ne) = rw (get_or-set_other L k x n 0 ne) (after.short x)
-
-  more_forward : (x : ℕ) → (x ≡ k) ⊎ (x ≡ k → ⊥) → (get_or (set R k c) x 0 < cells) × (x < cells → x ≤ get_or (set R k c) x 0)
-  more_forward x (inl e) = rw e (rw (get_or-set_same R k c 0 (omega arith)) (inside, λ _. omega arith))
-  more_forward x (inr ne) = rw (get_or-set_other R k x c 0 ne) (after.forward.inside x, λ b. after.forward.onward x b)
-
-  more_filled : Filled F d P Q (set L k n) (set B k h) (set R k c) k
-  more_filled = record {
-    right = λ x l b. more_right x (eq-or-lt_of_le l) b;
-    short = λ x. more_short x (same_or_not x k);
-    forward = record { onward = λ x b. (more_forward x (same_or_not x k)).1 b; inside = λ x. (more_forward x (same_or_not x k)).0 };
-  }
+  stable_chain : k < y.rest → cell_stack M k ≡ chain_stack K y
+  stable_chain l = rw there (stored y.frames l)
 
 -- ---- the loop over the cells
-pub none_filled : (F : List ℕ) (d : ℕ) (P Q L B R : List ℕ) → length P ≤ most_elements → ((c : ℕ) → get_or L c 0 ≡ 0) → Forward R → Filled F d P Q L B R filled
-unfolding stack_at best_stack best_by
-none_filled F d P Q L B R hp none forward = record {
-  right = λ c l h. rw (none c, at_end_lem P (c / places) (omega arith));
-  short = λ c. let e = none c in omega arith;
-  forward = forward;
-}
+module _ (F : List ℕ) (d : ℕ) (P Q : List ℕ) (K : List Chain) where
+  pub none_filled : length P ≤ most_elements → ((c : ℕ) → cell_stack K c ≡ []) → Filled F d P Q K filled
+  unfolding best_stack best_by Filled
+  none_filled hp none c l h = rw (none c, at_end_lem P (c / places) (omega arith))
 
-module _ (F : List ℕ) (d : ℕ) (P Q L B R : List ℕ) (k : ℕ) (so_far : Filled F d P Q L B R k) where
-  pub all_filled : k ≤ 0 → Filled F d P Q L B R 0
-  all_filled h = let e : k ≡ 0 = omega arith in rw e at so_far
+  module _ (k : ℕ) (so_far : Filled F d P Q K k) where
+    pub all_filled : k ≤ 0 → Filled F d P Q K 0
+    all_filled h = let e : k ≡ 0 = omega arith in rw e at so_far
 
-  pub cell_filled : (x : Firsts) (low : List ℕ) (n h c : ℕ) → 0 < k → k ≤ filled → length P ≤ most_elements → length Q ≤ most_elements →
-      length L ≡ cells → length B ≡ cells → length R ≡ cells →
-      x ≡ firsts_from F (lies_in F d) (pattern_from ((k - 1) / places) P) (pattern_from ((k - 1) % places) Q) → low ≡ alone F (lowest_in F d) →
-      stack_of B R n h c ≡ from_cells x low L B R (k - 1) → k - 1 < c → c < cells →
-      Filled F d P Q (set L (k - 1) n) (set B (k - 1) h) (set R (k - 1) c) (k - 1)
-  cell_filled x low n h c l m hp hq hl hb hr e f g far inside =
-      let s : k - 1 + 1 ≡ k = omega arith in
-      let after : Filled F d P Q L B R (k - 1 + 1) = rw s so_far in
-      let this = cell_right F d P Q L B R (k - 1) after (omega arith) hq x (stack_of B R n h c) low e f g in
-      let few = ap length this in
-      let frames = chain_length B R n h c in
-      let short = from_short F d P Q hp hq ((k - 1) / places) ((k - 1) % places) in
-      more_filled F d P Q L B R (k - 1) n h c after (omega arith) hl hb hr this far inside (omega arith)
+    module _ (x : Firsts) (low : List ℕ) (y : Chain) (h : 0 < k) (l : k ≤ filled) (hp : length P ≤ most_elements) (hq : length Q ≤ most_elements)
+        (e : x ≡ firsts_from F (lies_in F d) (pattern_from ((k - 1) / places) P) (pattern_from ((k - 1) % places) Q)) (f : low ≡ alone F (lowest_in F d))
+        (g : chain_stack K y ≡ from_cells x low K (k - 1)) where
+      this : chain_stack K y ≡ from F d P Q ((k - 1) / places) ((k - 1) % places)
+      this =
+          let s : k - 1 + 1 ≡ k = omega arith in
+          let after : Filled F d P Q K (k - 1 + 1) = rw s so_far in
+          cell_right F d P Q K (k - 1) after (omega arith) hq x (chain_stack K y) low e f g
+
+      pub cell_short : y.frames ≤ witness_words
+      cell_short =
+          let few = ap length this in
+          let frames = chain_length K y.frames y.base y.rest in
+          let short = from_short F d P Q hp hq ((k - 1) / places) ((k - 1) % places) in
+          omega arith
+
+      pub cell_filled : (M : List Chain) → cell_at M (k - 1) ≡ y → ((c : ℕ) → (c ≡ k - 1 → ⊥) → cell_at M c ≡ cell_at K c) → Onward K → k - 1 < y.rest →
+          Filled F d P Q M (k - 1)
+      unfolding Filled
+      cell_filled M there others onward far c m b = go (eq-or-lt_of_le m)
+        where
+          go : (k - 1 ≡ c) ⊎ (k - 1 < c) → cell_stack M c ≡ from F d P Q (c / places) (c % places)
+          go (inl z) = subst (λ (c : ℕ). cell_stack M c ≡ from F d P Q (c / places) (c % places)) z (stable_chain K M (k - 1) y there others onward far ∙ this)
+          go (inr z) = stable_cell K M (k - 1) y there others onward c z b ∙ so_far c (omega arith) b

@@ -1,9 +1,9 @@
 -- Two patterns that begin, or end, with elements that no frame meets both: no stack matches both patterns.
-use Prim.Native.Nat.{ℕ, suc, ◌-◌}
+use Prim.Native.Nat.{ℕ, suc, ◌-◌, ◌<◌}
 use native.Mathlib.Omega.{arith}
 use mathlib.Core.Logic.{⊎_elim}
 use mathlib.Core.Path.{◌≡◌, refl, sym, ap, ◌∙◌}
-use mathlib.Core.Bool.{Bool, true, false, false≢true}
+use mathlib.Core.Bool.{Bool, true, false, not, false≢true}
 use mathlib.Core.List.{List, [], ◌∷◌, ◌++◌, map, map-append}
 use lib.ListN.{length, get_or, take}
 use lib.Seq.{take-suc, take_all}
@@ -12,9 +12,11 @@ use Rattle.paper.specs.Match.{lies_in, first_meets, matches, is_all}
 use Rattle.paper.specs.Table.{element_in}
 use Rattle.paper.specs.Overlap.{witness_left}
 use Rattle.laws.specs.Frames.{meets_frame}
-use Rattle.laws.proofs.Elements.{empty_refuses, single_matches, word_single, at_element}
-use Rattle.overlap_cells.specs.declared.Common.{Common}
-use Rattle.overlap_cells.specs.declared.Common.TheVariants.{Nothing}
+use Rattle.laws.proofs.Elements.{empty_refuses, single_matches, at_element}
+use Rattle.std.specs.Prelude.{Option, Some as Told_frame, None, is_some}
+use Rattle.overlap_cells.specs.declared.element.Element.{Element as Told}
+use Rattle.overlap_cells.specs.declared.element.Element.TheVariants.{All, Function, Domain}
+use Rattle.overlap_cells.specs.Element.{meant}
 use Rattle.overlap_cells.specs.Best.{top_passes, Meet, common_frame, frame_of, best_stack}
 use Rattle.overlap_cells.specs.Cells.{Differ, NeverMeet}
 use Rattle.overlap_meeting.specs.Written.{Written}
@@ -80,12 +82,20 @@ last_word p h =
 pub not_tested : {A : Type 0} → false ≡ true → A
 not_tested e = absurd (false≢true e)
 
-pub nothing_in_common : (F : List ℕ) (a b : ℕ) (c : Common) → (a ≡ 0 → ⊥) → (b ≡ 0 → ⊥) → frame_of c ≡ common_frame F (element_in a) (element_in b) → c ≡ Nothing → Differ F a b
-unfolding frame_of
-nothing_in_common F a b c n m told e = record { one = n; other = m; apart = sym (rw e at told) }
+other_told : (a : Told) → (a ≡ All → ⊥) → is_all (meant a) ≡ false
+unfolding is_all
+other_told All n = absurd (n refl)
+other_told (Function f) n = refl
+other_told (Domain d) n = refl
 
-never_met : (F : List ℕ) (a b : ℕ) → Differ F a b → (y : ℕ) → Met F (element_in a) (element_in b) y → ⊥
-never_met F a b k = none_common F (element_in a) (element_in b) (rw (word_single a k.one)) k.apart
+pub nothing_in_common : (F : List ℕ) (a b : Told) (r : Option ℕ) (t : Bool) → (a ≡ All → ⊥) → (b ≡ All → ⊥) → frame_of r ≡ common_frame F (meant a) (meant b) →
+    is_some r ≡ not t → t ≡ true → Differ F (meant a) (meant b)
+unfolding frame_of
+nothing_in_common F a b None t n m told e h = record { one = other_told a n; other = other_told b m; apart = sym told }
+nothing_in_common F a b (Told_frame f) t n m told e h = absurd (false≢true (sym (e ∙ ap not h)))
+
+never_met : (F : List ℕ) (a b : Element) → Differ F a b → (y : ℕ) → Met F a b y → ⊥
+never_met F a b k = none_common F a b (rw k.one) k.apart
 
 -- where the patterns meet in no stack, none is the best
 none_best : (F p q : List ℕ) → ((d : ℕ) (s : List ℕ) → Meet F (lies_in F d) (map element_in p) (map element_in q) s → ⊥) → NeverMeet F p q
@@ -96,31 +106,31 @@ none_best F p q never d = go (best_stack F d (map element_in p) (map element_in 
     go [] meet = refl
     go (x ∷ u) meet = absurd (never d (x ∷ u) (meet tt))
 
-module _ (F p q : List ℕ) (hp : length p ≡ 0 → ⊥) (hq : length q ≡ 0 → ⊥) (t : Bool) (tested : t ≡ true) where
-  pub begin_apart : (t ≡ true → Differ F (get_or p 0 0) (get_or q 0 0)) → NeverMeet F p q
-  begin_apart h = none_best F p q go
+-- ---- the first two elements, and the last two
+module _ (F p q : List ℕ) (x y : ℕ) (a b : Told) (of_a : meant a ≡ element_in x) (of_b : meant b ≡ element_in y) (apart : Differ F (meant a) (meant b)) where
+  differ_in : Differ F (element_in x) (element_in y)
+  differ_in = rw (← of_a, ← of_b) apart
+
+  pub begin_apart : 0 < length p → 0 < length q → x ≡ get_or p 0 0 → y ≡ get_or q 0 0 → NeverMeet F p q
+  begin_apart hp hq e f = none_best F p q go
     where
       go : (d : ℕ) (s : List ℕ) → Meet F (lies_in F d) (map element_in p) (map element_in q) s → ⊥
       go d [] c = top_none (lies_in F d) c.top
-      go d (y ∷ s) c =
-          never_met F (get_or p 0 0) (get_or q 0 0) (h tested) y (
-            base_met F (element_in (get_or p 0 0)) y _ s (rw (at_element p 0 (omega arith)) at c.one),
-            base_met F (element_in (get_or q 0 0)) y _ s (rw (at_element q 0 (omega arith)) at c.other),
+      go d (z ∷ s) c =
+          never_met F (element_in x) (element_in y) differ_in z (
+            base_met F (element_in x) z _ s (rw (at_element p 0 hp, ← e) at c.one),
+            base_met F (element_in y) z _ s (rw (at_element q 0 hq, ← f) at c.other),
           )
 
-  pub end_apart : (t ≡ true → Differ F (get_or p (length p - 1) 0) (get_or q (length q - 1) 0)) → NeverMeet F p q
-  end_apart h = none_best F p q go
+  pub end_apart : 0 < length p → 0 < length q → x ≡ get_or p (length p - 1) 0 → y ≡ get_or q (length q - 1) 0 → NeverMeet F p q
+  end_apart hp hq e f = none_best F p q go
     where
       go : (d : ℕ) (s : List ℕ) → Meet F (lies_in F d) (map element_in p) (map element_in q) s → ⊥
       go d s c =
-          let k = h tested in
-          let a : ℕ = get_or p (length p - 1) 0 in
-          let b : ℕ = get_or q (length q - 1) 0 in
-          one_top (meets_frame F (element_in a)) (meets_frame F (element_in b)) (never_met F a b k) s
-          (top_met F (element_in a) (word_single a k.one) (map element_in (take (length p - 1) p)) s (rw (last_word p hp) at c.one))
-          (top_met F (element_in b) (word_single b k.other) (map element_in (take (length q - 1) q)) s (rw (last_word q hq) at c.other))
+          one_top (meets_frame F (element_in x)) (meets_frame F (element_in y)) (never_met F (element_in x) (element_in y) differ_in) s
+          (top_met F (element_in x) differ_in.one (map element_in (take (length p - 1) p)) s (rw (last_word p (λ z. omega arith), ← e) at c.one))
+          (top_met F (element_in y) differ_in.other (map element_in (take (length q - 1) q)) s (rw (last_word q (λ z. omega arith), ← f) at c.other))
 
-pub none_written : (p q functions old new : List ℕ) (d : ℕ) (t : Bool) → t ≡ true → (t ≡ true → NeverMeet functions p q) → new ≡ witness_left [] old →
-    Written (best_stack functions d (map element_in p) (map element_in q)) old new 0
+pub none_written : (F p q old new : List ℕ) (d : ℕ) → NeverMeet F p q → new ≡ witness_left [] old → Written (best_stack F d (map element_in p) (map element_in q)) old new None
 unfolding NeverMeet
-none_written p q functions old new d t e never left = rw (never e d) (record { counted = refl; left = left })
+none_written F p q old new d never left = rw (never d) (record { counted = refl; left = left })

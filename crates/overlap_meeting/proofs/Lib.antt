@@ -5,4 +5,3 @@ pub mod Needed
 mod Cells
 mod Ends
 mod Writing
-mod Witness

@@ -1,67 +1,71 @@
--- A loop that writes a list S over the front of O, one store a turn: zeros, and a stack that is a chain of cells.
-use Prim.Native.Nat.{ℕ, suc, ◌+◌, ◌-◌, ◌<◌, ◌≤◌}
+-- Zeros to the witness, and over them a stack that is a chain of cells, K the chain of each cell.
+use Prim.Native.Nat.{ℕ, zero, suc, ◌+◌, ◌-◌, ◌<◌, ◌≤◌}
 use native.Mathlib.Omega.{arith}
 use native.Mathlib.Numerals.{add-one}
-use native.Mathlib.Nat.{sub-zero}
-use mathlib.Core.Path.{◌≡◌, sym, ap, ◌∙◌}
-use mathlib.Core.List.{List, [], ◌∷◌, ◌++◌}
-use lib.ListN.{length, get_or, take, drop, set, replicate, length-replicate, get_or-replicate}
-use lib.Seq.{drop-cons, take-suc, append_snoc, set_at, length-take-le, take_all}
+use mathlib.Core.Path.{◌≡◌, refl, ap, ◌∙◌}
+use mathlib.Core.List.{List, [], ◌∷◌, ◌++◌, map, append_assoc, append-nil}
+use lib.Dec.{ltb}
+use lib.ListN.{length, take, drop, set, replicate, length-replicate, length-take}
+use lib.Seq.{take_all, drop-append-le}
+use borrow.Author.Tests.{lt-ltb}
+use Rattle.std.specs.Prelude.{Option}
+use Rattle.std.specs.Bool.{then_some}
 use Rattle.paper.specs.Limits.{witness_words}
-use Rattle.paper.specs.Table.{padded}
+use Rattle.paper.specs.Table.{element_in, padded}
 use Rattle.paper.specs.Overlap.{witness_left}
-use Rattle.overlap_cells.specs.Cells.{stack_at}
-use Rattle.overlap_cells.proofs.Chains.{stack_more, stack_length}
+use Rattle.laws.proofs.Places.{drop_zeros}
+use Rattle.overlap_cells.specs.declared.chain.Chain.{Chain}
+use Rattle.overlap_cells.specs.Best.{best_stack}
+use Rattle.overlap_cells.specs.Cells.{cell_at, stack_of, chain_stack, Short, Filled}
+use Rattle.overlap_cells.proofs.Chains.{chain_more, cell_read, chain_length, no_frames}
+use Rattle.overlap_meeting.specs.Written.{Written, depth_of}
 
-module _ (S O : List ℕ) (i : ℕ) where
-  write_more : (x : ℕ) → i < length S → i < length O → get_or S i 0 ≡ x → set (take i S ++ drop i O) i x ≡ take (i + 1) S ++ drop (i + 1) O
-  write_more x hs ho e =
-      rw (drop-cons O i 0 ho)
-      (set_at (take i S) (get_or O i 0) (drop (suc i) O) x i (length-take-le i S (omega arith))
-      ∙ rw (add-one i, take-suc S i 0 hs, e) (sym (append_snoc (take i S) x (drop (suc i) O))))
-
-  all_written : (W : List ℕ) (n : ℕ) → W ≡ take i S ++ drop i O → length S ≡ n → i ≤ n → n ≤ i → W ≡ S ++ drop n O
-  all_written W n so_far e h l =
-      let f : i ≡ n = omega arith in
-      let t : take n S ≡ S = take_all n S (omega arith) in
-      rw (← t) (rw f at so_far)
-
--- ---- the zeros
-module _ (O W : List ℕ) (i n : ℕ) (so_far : W ≡ take i (replicate n 0) ++ drop i O) where
-  pub zero_written : i < n → n ≤ length O → set W i 0 ≡ take (i + 1) (replicate n 0) ++ drop (i + 1) O
-  zero_written h l = rw so_far (write_more (replicate n 0) O i 0 (rw length-replicate h) (omega arith) (get_or-replicate n i 0 0 h))
-
-  zeros_written : i ≤ n → n ≤ i → W ≡ replicate n 0 ++ drop n O
-  zeros_written h l = all_written (replicate n 0) O i W n so_far (length-replicate n 0) h l
-
-pub witness_cleared : (O W : List ℕ) (i : ℕ) → W ≡ take i (replicate witness_words 0) ++ drop i O → i ≤ witness_words → witness_words ≤ i → W ≡ witness_left [] O
+pub witness_cleared : (O W : List ℕ) → witness_words ≤ length O → W ≡ replicate (length (take witness_words O)) 0 → W ++ drop witness_words O ≡ witness_left [] O
 unfolding witness_left padded
-witness_cleared O W i so_far h l = zeros_written O W i witness_words so_far h l
+witness_cleared O W room e = let n : length (take witness_words O) ≡ witness_words = rw length-take (omega arith) in rw (e, n)
 
--- ---- the frames: those from cell c on are left
-module _ (B R : List ℕ) (n c i : ℕ) (h : i < n) (at : drop i (stack_at B R 0 n) ≡ stack_at B R c (n - i)) where
-  abbrev S : List ℕ
-  S = stack_at B R 0 n
+-- ---- the loop: the frames written so far, and those that are left
+take_set : (W : List ℕ) (i f : ℕ) → i < length W → take (suc i) (set W i f) ≡ take i W ++ (f ∷ [])
+take_set [] i f h = absurd (omega arith)
+take_set (x ∷ W) zero f h = refl
+take_set (x ∷ W) (suc i) f h = ap (λ (r : List ℕ). x ∷ r) (take_set W i f (omega arith))
 
-  opened : get_or S i 0 ∷ drop (suc i) S ≡ get_or B c 0 ∷ stack_at B R (get_or R c 0) (n - i - 1)
-  opened = sym (drop-cons S i 0 (rw (stack_length B R 0 n) h)) ∙ (at ∙ stack_more B R c (n - i) (λ e. omega arith))
+module _ (K : List Chain) (S W : List ℕ) (n i f c : ℕ) (so_far : S ≡ take i W ++ stack_of K (n - i) f c) where
+  pub frame_written : i < n → length W ≡ n → (y : Chain) → y ≡ cell_at K c → S ≡ take (i + 1) (set W i f) ++ stack_of K (n - (i + 1)) y.base y.rest
+  frame_written h l y e =
+      let s : n - i - 1 ≡ n - (i + 1) = omega arith in
+      rw (add-one i, take_set W i f (omega arith), ← (add-one i), e, cell_read K c (n - (i + 1)), append_assoc, ← s) (rw (chain_more K (n - i) f c (λ z. omega arith)) at so_far)
 
-  next_frame : get_or (stack_at B R 0 n) i 0 ≡ get_or B c 0
-  next_frame = cc opened
+  pub frames_written : n ≤ i → length W ≡ n → (R : List ℕ) → W ++ R ≡ S ++ R
+  frames_written h l R =
+      let z : n - i ≡ 0 = omega arith in
+      let t : take i W ≡ W = take_all i W (omega arith) in
+      let e = rw (z, t, no_frames K f c, append-nil) at so_far in
+      rw e
 
-  pub frames_left : drop (i + 1) (stack_at B R 0 n) ≡ stack_at B R (get_or R c 0) (n - (i + 1))
-  frames_left =
-      let e : n - i - 1 ≡ n - suc i = omega arith in
-      let t : drop (suc i) S ≡ stack_at B R (get_or R c 0) (n - i - 1) = cc opened in
-      rw (add-one i) (t ∙ ap (λ (z : ℕ). stack_at B R (get_or R c 0) z) e)
+pub items_counted : (W O : List ℕ) (n : ℕ) → n ≤ length O → length W ≡ length (take n O) → length W ≡ n
+items_counted W O n h e = rw length-take at e ∙ omega arith
 
-module _ (B R : List ℕ) (n : ℕ) where
-  pub no_frame_written : drop 0 (stack_at B R 0 n) ≡ stack_at B R 0 (n - 0)
-  no_frame_written = rw sub-zero
+pub no_frame_written : (K : List Chain) (W : List ℕ) (n f c : ℕ) → stack_of K n f c ≡ take 0 W ++ stack_of K (n - 0) f c
+no_frame_written K W n f c = let s : n - 0 ≡ n = omega arith in rw s
 
-  module _ (O W : List ℕ) (i c : ℕ) (so_far : W ≡ take i (stack_at B R 0 n) ++ drop i O) where
-    pub frame_written : i < n → n ≤ length O → drop i (stack_at B R 0 n) ≡ stack_at B R c (n - i) → set W i (get_or B c 0) ≡ take (i + 1) (stack_at B R 0 n) ++ drop (i + 1) O
-    frame_written h l at = rw so_far (write_more (stack_at B R 0 n) O i (get_or B c 0) (rw (stack_length B R 0 n) h) (omega arith) (next_frame B R n c i h at))
+-- ---- n frames over the first zeros
+over_zeros : (S old mid new : List ℕ) (n : ℕ) → length S ≡ n → n ≤ witness_words → mid ≡ witness_left [] old → new ≡ S ++ drop n mid → new ≡ witness_left S old
+unfolding witness_left padded
+over_zeros S old mid new n e h f g =
+    g ∙ rw (f, drop-append-le n (replicate witness_words 0) (drop witness_words old) (rw length-replicate h), drop_zeros witness_words n, e, append_assoc)
 
-    pub frames_written : i ≤ n → n ≤ i → W ≡ stack_at B R 0 n ++ drop n O
-    frames_written h l = all_written (stack_at B R 0 n) O i W n so_far (stack_length B R 0 n) h l
+counted_lem : (S : List ℕ) (n : ℕ) → length S ≡ n → then_some (ltb 0 n) n ≡ depth_of S
+counted_lem [] n e = rw (← e)
+counted_lem (x ∷ S) n e = rw (← e, lt-ltb 0 (suc (length S)) (omega arith))
+
+module _ (F : List ℕ) (d : ℕ) (P Q : List ℕ) (K : List Chain) (done : Filled F d P Q K 0) where
+  pub best_written : (x : Chain) (old mid new : List ℕ) (r : Option ℕ) → x ≡ cell_at K 0 → Short K → mid ≡ witness_left [] old →
+      new ≡ chain_stack K x ++ drop x.frames mid → r ≡ then_some (ltb 0 x.frames) x.frames →
+      Written (best_stack F d (map element_in P) (map element_in Q)) old new r
+  unfolding Filled
+  best_written x old mid new r e short f g h =
+      let few : x.frames ≤ witness_words = rw e (short 0) in
+      let n = chain_length K x.frames x.base x.rest in
+      let best : chain_stack K x ≡ best_stack F d (map element_in P) (map element_in Q) = rw (e, cell_read K 0 (cell_at K 0).frames) (done 0 (omega arith) (omega arith)) in
+      rw (← best) (record { counted = h ∙ counted_lem (chain_stack K x) x.frames n; left = over_zeros (chain_stack K x) old mid new x.frames n few f g })

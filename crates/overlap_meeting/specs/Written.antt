@@ -1,5 +1,5 @@
 -- What is asked before the best stack of two patterns is written, and what is left then.
-use Rattle.std.specs.Prelude.{ℕ, ◌≤◌, ◌≡◌, List, length}
+use Rattle.std.specs.Prelude.{ℕ, ◌≤◌, ◌≡◌, List, [], ◌∷◌, Option, Some, None, length}
 use Rattle.paper.specs.Limits.{most_elements, witness_words}
 use Rattle.paper.specs.Overlap.{witness_left}
 
@@ -9,7 +9,12 @@ pub record Fits (p q witness : List ℕ) : Type 0 where
   pub other : length q ≤ most_elements
   pub room : witness_words ≤ length witness
 
--- the witness holds the stack, which has r frames
-pub record Written (stack old new : List ℕ) (r : ℕ) : Type 0 where
-  pub counted : r ≡ length stack
+-- how many frames a stack has, if any
+abbrev pub depth_of : List ℕ → Option ℕ
+depth_of [] = None
+depth_of (x ∷ stack) = Some (length (x ∷ stack))
+
+-- the witness holds the stack, which has r frames, if any
+pub record Written (stack old new : List ℕ) (r : Option ℕ) : Type 0 where
+  pub counted : r ≡ depth_of stack
   pub left : new ≡ witness_left stack old

@@ -1,14 +1,14 @@
 -- The bit of a domain, as `contains` and `insert` of `Operation` compute it.
 use Prim.Native.Nat.{ℕ, zero, suc, ◌+◌, ◌*◌, ◌/◌, ◌%◌, ◌^◌, ◌<◌, ◌≤◌}
-use mathlib.Core.Path.{◌≡◌, sym, ap, ◌∙◌}
-use mathlib.Core.Bool.{false}
+use mathlib.Core.Path.{◌≡◌, refl, sym, ap, ◌∙◌}
+use mathlib.Core.Bool.{true, false}
 use mathlib.Core.List.{List}
 use native.Mathlib.Nat.{one-mul, mod-eq_of_lt, div-div-eq-div-mul, pow-succ', pow-suc, div-one, zero-div}
 use native.Mathlib.Omega.{arith}
 use lib.Pow.{pow-lt}
 use lib.ListN.{length, get_or, set, get_or-eq_default}
 use lib.Seq.{set_out}
-use borrow.Author.Tests.{eq-eqb}
+use borrow.Author.Tests.{eqb-false}
 use Rattle.paper.specs.Table.{is_in, with_domain}
 
 pub bit_suc : (w k : ℕ) → w / 2 ^ suc k ≡ w / 2 / 2 ^ k
@@ -32,17 +32,22 @@ put_fits w d l z =
     omega (arith, shifted (d % 16) k, bit_fits 16 (d % 16) w k l z)
 
 module _ (s : List ℕ) (d : ℕ) where
-  pub past_end : length s ≤ d / 16 → false ≡ is_in s d
+  -- a domain that is not in the set has its bit off
+  pub bit_off : is_in s d ≡ false → get_or s (d / 16) 0 / 2 ^ (d % 16) % 2 ≡ 0
+  unfolding is_in
+  bit_off e = omega (arith, eqb-false (get_or s (d / 16) 0 / 2 ^ (d % 16) % 2) 1 e)
+
+  pub put : is_in s d ≡ false → set s (d / 16) (get_or s (d / 16) 0 + 1 * 2 ^ (d % 16) % 65536) ≡ with_domain s d
+  unfolding with_domain
+  put e = let k : d % 16 < 16 = omega arith in rw (e, shifted (d % 16) k) refl
+
+  pub put_already : is_in s d ≡ true → s ≡ with_domain s d
+  unfolding with_domain
+  put_already e = rw e refl
+
+  past_end : length s ≤ d / 16 → false ≡ is_in s d
   unfolding is_in
   past_end h = rw (get_or-eq_default s 0 h, zero-div)
-
-  pub put : get_or s (d / 16) 0 / 2 ^ (d % 16) % 2 ≡ 0 → set s (d / 16) (get_or s (d / 16) 0 + 1 * 2 ^ (d % 16) % 65536) ≡ with_domain s d
-  unfolding is_in with_domain
-  put z = let k : d % 16 < 16 = omega arith in rw (z, shifted (d % 16) k)
-
-  pub put_already : (get_or s (d / 16) 0 / 2 ^ (d % 16) % 2 ≡ 0 → ⊥) → s ≡ with_domain s d
-  unfolding is_in with_domain
-  put_already n = rw (eq-eqb (get_or s (d / 16) 0 / 2 ^ (d % 16) % 2) 1 (omega arith))
 
   pub put_past_end : length s ≤ d / 16 → s ≡ with_domain s d
   unfolding with_domain

@@ -73,12 +73,8 @@ impl Operation {
     pub fn contains(set: &[u16], d: usize) -> bool
         ensures { result ≡ is_in set.now d }
     {
-        let i = d / 16;
-        let bit = d % 16;
-        if i < set.len() {
-            return (set[i] >> bit) % 2 == 1;
-        }
-        false
+        let word = set.get(d / 16).copied().unwrap_or(0);
+        (word >> (d % 16)) % 2 == 1
     }
 
     // Puts domain d into the set.
@@ -86,12 +82,8 @@ impl Operation {
         ensures { set.new ≡ with_domain set.old d }
     {
         let i = d / 16;
-        let bit = d % 16;
-        if i < set.len() {
-            let word = set[i];
-            if (word >> bit) % 2 == 0 {
-                set[i] = word + (1 << bit);
-            }
+        if i < set.len() && !Operation::contains(set, d) {
+            set[i] += 1 << (d % 16);
         }
     }
 }
@@ -103,6 +95,13 @@ pub enum Access {
     Write(ObjectNumber),
     Call(FunctionNumber),
     Return(FunctionNumber),
+}
+
+// What is wrong with a text: the number that it is refused with, and the line.
+#[derive(Clone, Copy)]
+pub struct Fault {
+    pub number: u16,
+    pub line: usize,
 }
 
 // The reader's answer.

@@ -4,7 +4,6 @@
 pub mod layout;
 
 ghost use Rattle.std.specs.Prelude.{◌≡◌, ◌+◌, ◌*◌, ◌<◌, ◌≤◌, take, drop};
-ghost use Rattle.paper.specs.Common.{same};
 ghost use Rattle.paper.specs.Table.{word, pattern_words_in, object_domains_in};
 ghost use Rattle.paper.specs.Table.{function_domains_in, read_count, write_count, first_descriptor};
 ghost use Rattle.table.specs.Reach.{word_values, reach};
@@ -15,46 +14,23 @@ use crate::layout::entry_at;
 pub fn word(t: &[u16], at: usize) -> u16
     ensures { result ≡ word t.now at }
 {
-    if at < t.len() { t[at] } else { 0 }
+    t.get(at).copied().unwrap_or(0)
 }
 
 // The same as a number to count and index with.
 pub fn count(t: &[u16], at: usize) -> usize
     ensures { (result ≡ word t.now at) × (result < word_values) }
 {
-    word(t, at) as usize
+    usize::from(word(t, at))
 }
 
 // So many words from a place on, or as many as there are.
+// `text_bytes::part` takes an end in place of the count: a body for both would be no plainer than either.
 pub fn part(t: &[u16], at: usize, n: usize) -> &[u16]
     ensures { result.now ≡ take n (drop at t.now) }
 {
-    let end = t.len();
-    if end <= at {
-        return &t[..0];
-    }
-    if end - at <= n {
-        return &t[at..];
-    }
-    let e = at + n;
-    &t[at..e]
-}
-
-// Two parts hold the same words.
-pub fn same_words(x: &[u16], y: &[u16]) -> bool
-    ensures { result ≡ same x.now y.now }
-{
-    if x.len() != y.len() {
-        return false;
-    }
-    let mut i: usize = 0;
-    while i < x.len() {
-        if x[i] != y[i] {
-            return false;
-        }
-        i += 1;
-    }
-    true
+    let rest = &t[at.min(t.len())..];
+    &rest[..n.min(rest.len())]
 }
 
 // The domain of each object.
@@ -93,11 +69,9 @@ pub fn first_descriptor(t: &[u16], n: usize) -> usize
     requires { n ≤ word_values }
     ensures { (result ≡ first_descriptor t.now n) × (result ≤ 2 * word_values * n) }
 {
-    let mut sum: usize = 0;
-    let mut k: usize = 0;
-    while k < n {
+    let mut sum = 0;
+    for k in 0..n {
         sum += descriptors_of(t, k);
-        k += 1;
     }
     sum
 }

@@ -9,9 +9,7 @@ use lib.Dec.{eqb}
 use lib.ListN.{length, take, drop, length-drop, drop_of_length-le}
 use lib.Seq.{take-nil, take_all}
 use Rattle.paper.specs.Common.{within, any_of}
-use Rattle.paper.specs.Scalars.{is_letter, is_digit, name_byte, identifier_first}
-use Rattle.text_bytes.specs.Classes.{is_of}
-use Rattle.text_bytes.specs.declared.Class.{Class}
+use Rattle.paper.specs.Scalars.{is_letter, is_digit, identifier_first}
 
 module _ (b : ℕ) where
   pub letter_is : (capital small : Bool) → capital ≡ within (code "A") (code "Z") b → small ≡ within (code "a") (code "z") b → (capital || small) ≡ is_letter b
@@ -22,16 +20,9 @@ module _ (b : ℕ) where
   unfolding is_digit
   digit_is digit e = e
 
-  pub name_byte_is : (letter digit : Bool) → letter ≡ is_letter b → digit ≡ is_digit b → (letter || digit || eqb b (code "_") || eqb b (code ".")) ≡ name_byte b
-  unfolding name_byte any_of
-  name_byte_is letter digit e f = rw (e, f) (simp (or_assoc, or-false))
-
   pub identifier_first_is : (letter digit : Bool) → letter ≡ is_letter b → digit ≡ is_digit b → (letter || digit || eqb b (code "/") || eqb b (code ".") || eqb b (code "_")) ≡ identifier_first b
   unfolding identifier_first any_of
   identifier_first_is letter digit e f = rw (e, f) (simp (or_assoc, or-false))
-
-  pub of_known_class : (class known : Class) (r : Bool) → class ≡ known → r ≡ is_of known b → r ≡ is_of class b
-  of_known_class class known r e f = rw e f
 
 -- ---- a part from a start to an end
 

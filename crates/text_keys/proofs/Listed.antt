@@ -7,18 +7,16 @@ use native.Mathlib.Omega.{arith}
 use lib.ListN.{get_or-eq_default}
 use Rattle.paper.specs.Listing.{row, listing, row_at}
 use Rattle.paper.specs.declared.Value.TheVariants.{Keys}
-use Rattle.text_keys.specs.Rows.{seen, told, places_up_to}
-use Rattle.text_keys.specs.declared.rows.Row.{Row}
-use Rattle.text_keys.specs.declared.rows.Key.TheVariants.{Nothing}
+use Rattle.text_keys.specs.Rows.{Said, told}
 
 -- the row of a place, where the match found which place it is
-pub row_is : (p k : ℕ) (r s : Row) → p ≡ k → r ≡ s → seen s ≡ told (row_at k) → seen r ≡ told (row_at p)
-row_is p k r s e f g = ap seen f ∙ g ∙ ap (λ (n : ℕ). told (row_at n)) (sym e)
+pub row_is : (p k : ℕ) (r s : Said) → p ≡ k → r ≡ s → s ≡ told (row_at k) → r ≡ told (row_at p)
+row_is p k r s e f g = f ∙ g ∙ ap (λ (n : ℕ). told (row_at n)) (sym e)
 
 -- past the listing
-pub row_past : (p : ℕ) (r : Row) → 31 ≤ p → r ≡ record { key = Nothing; value = Keys; block = 0; next = 0; last = false } → seen r ≡ told (row_at p)
-unfolding row_at listing places_up_to
-row_past p r h e = ap seen e ∙ ap told (sym (get_or-eq_default listing (row "" Keys [] [] false) {n = p} h))
+pub row_past : (p : ℕ) (r : Said) → 31 ≤ p → r ≡ record { key = []; value = Keys; block = []; next = []; last = false } → r ≡ told (row_at p)
+unfolding row_at listing
+row_past p r h e = e ∙ ap told (sym (get_or-eq_default listing (row "" Keys [] [] false) {n = p} h))
 
 -- a number that is none of the first k is at least k
 abbrev pub NoneOf : ℕ → ℕ → Type 0

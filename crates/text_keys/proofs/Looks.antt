@@ -1,192 +1,102 @@
--- A line asked about a key, and the look for its place among several.
+-- The look for a line's place among several.
 use mathlib.Core.Path.{◌≡◌, refl, sym, ap, ◌∙◌}
-use mathlib.Core.Bool.{Bool, true, false, cond, not, ◌&&◌, ◌||◌}
-use mathlib.Core.List.{List}
-use Prim.Native.Nat.{ℕ, zero, suc, ◌+◌, ◌-◌, ◌/◌, ◌%◌, ◌<◌, ◌≤◌}
+use mathlib.Core.Bool.{Bool, true, false, cond, not, ◌&&◌, ◌||◌, or-true}
+use mathlib.Core.List.{List, [], ◌∷◌}
+use Prim.Native.Nat.{ℕ, zero, suc, ◌+◌, ◌-◌, ◌<◌, ◌≤◌}
 use native.Mathlib.Nat.{not-suc-le-zero}
+use native.Mathlib.Numerals.{add-one}
 use native.Mathlib.Omega.{arith}
 use lib.Dec.{eqb}
-use lib.ListN.{length, get_or, take, drop, length-drop}
-use lib.Seq.{take_all}
-use borrow.Author.Tests.{eqb-true, eqb-false, eq-eqb, ne_eqb, not-true, not-false}
-use Rattle.paper.specs.Common.{bytes, is_front_of}
-use Rattle.laws.proofs.Tests.{both_false}
+use lib.ListN.{length, get_or, take, drop, length-drop, drop_of_length-le}
+use lib.Seq.{take_all, drop-cons}
+use borrow.Author.Tests.{eq-eqb, ne_eqb}
+use Rattle.std.specs.Prelude.{Some, None}
+use Rattle.std.specs.List.{starts_with, slice_get}
+use Rattle.paper.specs.Common.{bytes, is_front_of, any_of}
 use Rattle.paper.specs.Text.{column}
-use Rattle.text_lines.proofs.Laws.{column_within, column_again, column_stops, column_ends}
-use Rattle.paper.specs.Listing.{listing, row_at, key_at, dashed, alongside, begins_block}
+use Rattle.paper.specs.Listing.{nowhere, row_at, key_at, dashed, alongside, begins_block}
 use Rattle.paper.specs.Page.{place_of}
-use Rattle.text_keys.specs.Rows.{Said, key_text, places_up_to, seen, told}
-use Rattle.text_keys.specs.Asked.{answer}
+use Rattle.text_keys.specs.Rows.{Said, key_text, seen, told}
 use Rattle.text_keys.specs.declared.rows.Row.{Row}
 use Rattle.text_keys.specs.declared.rows.Key.{Key}
-use Rattle.text_keys.specs.declared.Answer.{Answer}
-use Rattle.text_keys.specs.declared.Answer.TheVariants.{No, Yes}
-use Rattle.text_keys.proofs.Fronts.{front_within}
-
--- ---- how a line stands
-
-pub dashed_is : (l : List ℕ) (k : ℕ) (r : Bool) → k ≡ column l → r ≡ is_front_of (bytes "- ") (take (length l - k) (drop k l)) → r ≡ dashed l
-unfolding dashed
-dashed_is l k r e f =
-    f
-    ∙ ap (is_front_of (bytes "- ")) (take_all (length l - k) (drop k l) (omega (arith, length-drop k l)))
-    ∙ ap (λ (n : ℕ). is_front_of (bytes "- ") (drop n l)) e
-
-module _ (l : List ℕ) (k : ℕ) where
-  pub column_short : length l < k → false ≡ eqb (column l) k
-  column_short h = sym (ne_eqb (column l) k (λ z. omega (arith, column_within l)))
-
-  module _ (i : ℕ) (inv : i + column (drop i l) ≡ column l) where
-    pub column_goes : i < k → k ≤ length l → get_or l i 0 ≡ 32 → i + 1 + column (drop (i + 1) l) ≡ column l
-    column_goes h g e = column_again l i inv (omega arith) e
-
-    pub column_differs : i < k → k ≤ length l → (get_or l i 0 ≡ 32 → ⊥) → false ≡ eqb (column l) k
-    column_differs h g n = let q : i ≡ column l = column_stops l i inv (omega arith) n in sym (ne_eqb (column l) k (λ z. omega arith))
-
-    module _ (h : i ≤ k) (g : k ≤ i) where
-      pub column_blank : length l ≤ i → true ≡ eqb (column l) k
-      column_blank m = let q : i ≡ column l = column_ends l i inv m in sym (eq-eqb (column l) k (omega arith))
-
-      pub column_last : i < length l → not (eqb (get_or l i 0) 32) ≡ eqb (column l) k
-      column_last m = go (eqb (get_or l i 0) 32) refl
-        where
-          go : (t : Bool) → eqb (get_or l i 0) 32 ≡ t → not t ≡ eqb (column l) k
-          go true e = sym (ne_eqb (column l) k (λ z. omega (arith, column_again l i inv m (eqb-true (get_or l i 0) 32 e))))
-          go false e = let q : i ≡ column l = column_stops l i inv m (eqb-false (get_or l i 0) 32 e) in sym (eq-eqb (column l) k (omega arith))
-
-  module _ (c d : Bool) (e : c ≡ eqb (column l) k) where
-    pub stands_away : not c ≡ true → false ≡ (eqb (column l) k && (not d || dashed l))
-    stands_away t = rw (← e, not-true c t)
-
-    module _ (t : not c ≡ false) where
-      at_column : k ≡ column l
-      at_column = sym (eqb-true (column l) k (sym e ∙ not-false c t))
-
-      pub stands_within : k ≤ length l
-      stands_within = let q : k ≡ column l = at_column in omega (arith, column_within l)
-
-      pub stands_dashed : (r : Bool) → d ≡ true → r ≡ is_front_of (bytes "- ") (take (length l - k) (drop k l)) → r ≡ (eqb (column l) k && (not d || dashed l))
-      stands_dashed r h f = rw (← e, not-false c t, h) (dashed_is l k r at_column f)
-
-      pub stands_plain : d ≡ false → true ≡ (eqb (column l) k && (not d || dashed l))
-      stands_plain h = rw (← e, not-false c t, h)
-
--- ---- a question and its answer
-
-module _ (key l : List ℕ) where
-  answer_no : is_front_of key l ≡ false → No ≡ answer key l
-  unfolding answer
-  answer_no e = rw e
-
-  pub asked_short : length l < length key → No ≡ answer key l
-  asked_short h = answer_no (go (is_front_of key l) refl)
-    where
-      go : (t : Bool) → is_front_of key l ≡ t → is_front_of key l ≡ false
-      go true e = absurd (let q : length key ≤ length l = front_within key l e in omega arith)
-      go false e = e
-
-  module _ (back front : Bool) (e : (back && front) ≡ is_front_of key l) where
-    pub asked_back : not back ≡ true → No ≡ answer key l
-    asked_back t = answer_no (sym e ∙ ap (λ (x : Bool). x && front) (not-true back t))
-
-    module _ (r : Bool) (f : r ≡ front) where
-      pub asked_front : not r ≡ true → No ≡ answer key l
-      asked_front t = answer_no (sym e ∙ both_false back front (sym f ∙ not-true r t))
-
-      pub asked_yes : not back ≡ false → not r ≡ false → Yes (length key) ≡ answer key l
-      unfolding answer
-      asked_yes s t = rw (← e, not-false back s, ← f, not-false r t)
-
--- a key that is known by its name
-module _ (key k : Key) (e : key ≡ k) where
-  pub size_of : (n : ℕ) → n ≡ length (key_text k) → n ≡ length (key_text key)
-  size_of n f = rw e f
-
-  pub asked_of : (l : List ℕ) (r : Answer) → r ≡ answer (key_text k) l → r ≡ answer (key_text key) l
-  asked_of l r f = rw e f
-
-  pub alongside_of : (l : List ℕ) (n : ℕ) (d r : Bool) → r ≡ (eqb (column l) n && (not d || dashed l)) → n ≡ column (key_text k) → d ≡ dashed (key_text k) → r ≡ alongside (key_text key) l
-  unfolding alongside
-  alongside_of l n d r f g h = rw (e, ← g, ← h) f
+use Rattle.text_keys.specs.Asked.{Finds}
+use Rattle.text_keys.proofs.Fronts.{front_is, front_within}
 
 -- the row that the code found has the key of the place
 pub key_of : (p : ℕ) (r : Row) → seen r ≡ told (row_at p) → key_text r.key ≡ key_at p
 unfolding key_at
 key_of p r e = ap (λ (s : Said). s.key) e
 
--- a yes says that the key fits, and how long it is
-module _ (p : ℕ) (row : Row) (l : List ℕ) (r : Answer) (e : seen row ≡ told (row_at p)) (f : r ≡ answer (key_text row.key) l) where
-  told_answer : r ≡ cond (is_front_of (key_at p) l) (Yes (length (key_at p))) No
-  unfolding answer
-  told_answer = f ∙ ap (λ (k : List ℕ). answer k l) (key_of p row e)
+-- what follows the spaces is the part of the line from its column on
+pub dashed_is : (l : List ℕ) (k : ℕ) (r : Bool) → k ≡ column l → r ≡ starts_with eqb (take (length l - k) (drop k l)) (bytes "- ") → r ≡ dashed l
+unfolding dashed
+dashed_is l k r e f =
+    f
+    ∙ front_is (bytes "- ") (take (length l - k) (drop k l))
+    ∙ ap (is_front_of (bytes "- ")) (take_all (length l - k) (drop k l) (omega (arith, length-drop k l)))
+    ∙ ap (λ (n : ℕ). is_front_of (bytes "- ") (drop n l)) e
 
-  pub yes_fits : (n : ℕ) → r ≡ Yes n → is_front_of (key_at p) l ≡ true
-  yes_fits n y = go (is_front_of (key_at p) l) (sym told_answer ∙ y)
-    where
-      go : (t : Bool) → cond t (Yes (length (key_at p))) No ≡ Yes n → t ≡ true
-      go true q = refl
-      go false q = absurd (let z : ◌≡◌ {A = ℕ} 0 1 = cc in omega arith)
+-- a key that is known by its name
+pub stands_of : (key k : Key) → key ≡ k → (m n : ℕ) (b d : Bool) → m ≡ n → b ≡ d → n ≡ column (key_text k) → d ≡ dashed (key_text k)
+    → (m ≡ column (key_text key)) × (b ≡ dashed (key_text key))
+stands_of key k e m n b d em eb ek ed = rw e (em ∙ ek, eb ∙ ed)
 
-  pub yes_length : (n : ℕ) → r ≡ Yes n → n ≡ length (key_at p)
-  yes_length n y = go (is_front_of (key_at p) l) (sym told_answer ∙ y)
-    where
-      go : (t : Bool) → cond t (Yes (length (key_at p))) No ≡ Yes n → n ≡ length (key_at p)
-      go true q = cc
-      go false q = absurd (let z : ◌≡◌ {A = ℕ} 0 1 = cc in omega arith)
+-- a line stands as a key does
+module _ (l : List ℕ) (k m : ℕ) (d : Bool) (e : m ≡ column l) where
+  pub stands_away : (m ≡ k → ⊥) → false ≡ (eqb (column l) k && (not d || dashed l))
+  stands_away n = rw (← e, ne_eqb m k n)
 
-  pub no_fits : r ≡ No → is_front_of (key_at p) l ≡ false
-  no_fits y = go (is_front_of (key_at p) l) (sym told_answer ∙ y)
-    where
-      go : (t : Bool) → cond t (Yes (length (key_at p))) No ≡ No → t ≡ false
-      go true q = absurd (let z : ◌≡◌ {A = ℕ} 0 1 = cc in omega arith)
-      go false q = refl
+  module _ (h : m ≡ k) where
+    pub stands_plain : not d ≡ true → not d ≡ (eqb (column l) k && (not d || dashed l))
+    stands_plain t = rw (← e, eq-eqb m k h, t)
 
-pub yes_within : (p : ℕ) (row : Row) (l : List ℕ) (r : Answer) → seen row ≡ told (row_at p) → r ≡ answer (key_text row.key) l → (n : ℕ) → r ≡ Yes n → n ≤ length l
-yes_within p row l r e f n y =
-    let q : n ≡ length (key_at p) = yes_length p row l r e f n y in
-    omega (arith, front_within (key_at p) l (yes_fits p row l r e f n y))
+    pub stands_dashed : (r : Bool) → not d ≡ false → r ≡ starts_with eqb (take (length l - k) (drop k l)) (bytes "- ") → r ≡ (eqb (column l) k && (not d || dashed l))
+    stands_dashed r t f = rw (← e, eq-eqb m k h, t) (dashed_is l k r (sym h ∙ e) f)
 
 -- ---- the block that begins with the first of some places
 
-module _ (n : ℕ) (l : List ℕ) where
-  pub block_none : n % 256 ≡ 0 → false ≡ begins_block (places_up_to 8 n) l
-  unfolding places_up_to begins_block
-  block_none z = rw (eq-eqb (n % 256) 0 z)
+-- the key that the code reads is the place's
+module _ (p : ℕ) (row : Row) (e : seen row ≡ told (row_at p)) where
+  read_key : (key : List ℕ) → key ≡ key_text row.key → key ≡ key_at p
+  read_key key ek = ek ∙ key_of p row e
 
-  pub block_some : (row : Row) (r : Bool) → (n % 256 ≡ 0 → ⊥) → seen row ≡ told (row_at (n % 256)) → r ≡ alongside (key_text row.key) l → r ≡ begins_block (places_up_to 8 n) l
-  unfolding places_up_to begins_block
-  block_some row r z e f = rw (ne_eqb (n % 256) 0 z, ← key_of (n % 256) row e) f
+  pub block_some : (places l : List ℕ) (r : Bool) (k : ℕ) (d : Bool) → Some p ≡ slice_get places 0 → k ≡ column (key_text row.key) → d ≡ dashed (key_text row.key)
+      → r ≡ (eqb (column l) k && (not d || dashed l)) → r ≡ begins_block places l
+  unfolding begins_block alongside
+  block_some [] l r k d q ek ed f = absurd (cc)
+  block_some (x ∷ xs) l r k d q ek ed f = let z : p ≡ x = cc in rw (← z, ← key_of p row e, ← ek, ← ed) f
 
--- ---- the look for a line's place: what is left of the places finds what all of them find
+pub block_none : (places l : List ℕ) → None ≡ slice_get places 0 → false ≡ begins_block places l
+unfolding begins_block
+block_none [] l q = refl
+block_none (x ∷ xs) l q = absurd (cc)
 
--- no key stands nowhere
-pub nowhere_short : 0 ≡ length (key_at 0)
-unfolding key_at row_at listing
-nowhere_short = refl
+-- ---- the look for a line's place: the places that are left find what all of them find
 
-module _ (n : ℕ) (l : List ℕ) (P : ℕ) where
-  pub place_none : (k : ℕ) → place_of (places_up_to k n) l ≡ P → n % 256 ≡ 0 → n % 256 ≡ P
-  unfolding places_up_to place_of
-  place_none zero inv z = z ∙ inv
-  place_none (suc k) inv z = rw (← inv, eq-eqb (n % 256) 0 z) z
+stands_among : (places : List ℕ) (i : ℕ) → i < length places → any_of (eqb (get_or places i 0)) places ≡ true
+unfolding any_of
+stands_among [] i h = absurd (not-suc-le-zero h)
+stands_among (x ∷ xs) zero h = rw (eq-eqb x x refl)
+stands_among (x ∷ xs) (suc i) h = rw (stands_among xs i (omega arith)) (or-true (eqb (get_or xs i 0) x))
 
-  pub place_spent : (k : ℕ) → place_of (places_up_to k n) l ≡ P → k ≤ 0 → 0 ≡ P
-  unfolding places_up_to place_of
-  place_spent zero inv h = inv
-  place_spent (suc k) inv h = absurd (not-suc-le-zero h)
+module _ (places l : List ℕ) (i : ℕ) where
+  module _ (h : i < length places) (inv : place_of (drop i places) l ≡ place_of places l) (row : Row) (key : List ℕ) (r : Bool)
+      (e : seen row ≡ told (row_at (get_or places i 0))) (ek : key ≡ key_text row.key) (er : r ≡ is_front_of key l) where
+    same_key : key ≡ key_at (get_or places i 0)
+    same_key = read_key (get_or places i 0) row e key ek
 
-  pub none_short : n % 256 ≡ 0 → 0 ≡ length (key_at (n % 256))
-  none_short z = rw z nowhere_short
+    by_first : cond (is_front_of key l) (get_or places i 0) (place_of (drop (i + 1) places) l) ≡ place_of places l
+    unfolding place_of
+    by_first = sym (sym inv ∙ rw (add-one, drop-cons places i 0, same_key))
 
-  module _ (row : Row) (r : Answer) (z : (n % 256 ≡ 0 → ⊥)) (e : seen row ≡ told (row_at (n % 256))) (f : r ≡ answer (key_text row.key) l) where
-    pub place_found : (k m : ℕ) → 0 < k → place_of (places_up_to k n) l ≡ P → r ≡ Yes m → n % 256 ≡ P
-    unfolding places_up_to place_of
-    place_found zero m h inv y = absurd (not-suc-le-zero h)
-    place_found (suc k) m h inv y = rw (← inv, ne_eqb (n % 256) 0 z, yes_fits (n % 256) row l r e f m y)
+    pub place_found : r ≡ true → Finds places l (Some (record { place = get_or places i 0; length = length key }))
+    place_found t =
+        let f : is_front_of key l ≡ true = sym er ∙ t in
+        (rw f at by_first, stands_among places i h, ap length same_key, front_within key l f)
 
-    pub place_again : (k : ℕ) → 0 < k → place_of (places_up_to k n) l ≡ P → r ≡ No → place_of (places_up_to (k - 1) (n / 256)) l ≡ P
-    unfolding places_up_to place_of
-    place_again zero h inv y = absurd (not-suc-le-zero h)
-    place_again (suc k) h inv y =
-        let q : suc k - 1 ≡ k = omega arith in
-        rw (← inv, ne_eqb (n % 256) 0 z, no_fits (n % 256) row l r e f y, q)
+    pub place_again : r ≡ false → place_of (drop (i + 1) places) l ≡ place_of places l
+    place_again t = let f : is_front_of key l ≡ false = sym er ∙ t in rw f at by_first
+
+  pub place_spent : place_of (drop i places) l ≡ place_of places l → length places ≤ i → place_of places l ≡ nowhere
+  unfolding place_of
+  place_spent inv h = sym inv ∙ rw (drop_of_length-le places h) refl

@@ -1,20 +1,12 @@
--- What a line answers when it is asked about a key.
-use Rattle.std.specs.Prelude.{ℕ, ◌+◌, List, Bool, cond, ◌&&◌, eqb, length, get_or}
-use Rattle.paper.specs.Common.{is_front_of}
-use Rattle.text_keys.specs.declared.Answer.{Answer}
-use Rattle.text_keys.specs.declared.Answer.TheVariants.{No, Yes}
+-- What a look among places finds.
+use Rattle.std.specs.Prelude.{ℕ, ◌≡◌, ◌≤◌, List, true, eqb, length, Option, Some, None}
+use Rattle.paper.specs.Common.{any_of}
+use Rattle.paper.specs.Listing.{nowhere, key_at}
+use Rattle.paper.specs.Page.{place_of}
+use Rattle.text_keys.specs.declared.Placed.{Placed}
 
--- whether it begins with the key; yes with how long the key is
-unfoldable pub answer : List ℕ → List ℕ → Answer
-answer key l = cond (is_front_of key l) (Yes (length key)) No
-
--- key and line have the same byte at a place
-abbrev pub alike : List ℕ → List ℕ → ℕ → Bool
-alike key l i = eqb (get_or key i 0) (get_or l i 0)
-
--- and at the three after it
-abbrev pub four_alike : List ℕ → List ℕ → ℕ → Bool
-four_alike key l i = alike key l i && alike key l (i + 1) && alike key l (i + 2) && alike key l (i + 3)
-
-abbrev pub eight_alike : List ℕ → List ℕ → ℕ → Bool
-eight_alike key l i = four_alike key l i && four_alike key l (i + 4)
+-- the place whose key the line begins with, which is one of these, and how long that key is; or that none is
+abbrev pub Finds : List ℕ → List ℕ → Option Placed → Type 0
+Finds places l None = place_of places l ≡ nowhere
+Finds places l (Some p) =
+    (p.place ≡ place_of places l) × (any_of (eqb p.place) places ≡ true) × (p.length ≡ length (key_at p.place)) × (p.length ≤ length l)

@@ -1,5 +1,5 @@
--- The code's rows beside the paper's: the same but that a key is named, and that lists of places are packed in one number.
-use Rattle.std.specs.Prelude.{ℕ, zero, suc, ◌/◌, ◌%◌, List, [], ◌∷◌, Bool, cond, eqb}
+-- The code's rows beside the paper's: the same but that a key is named.
+use Rattle.std.specs.Prelude.{ℕ, List, Bool}
 use Rattle.paper.specs.declared.Value.{Value}
 use Rattle.paper.specs.Common.{bytes}
 use Rattle.paper.specs.Listing as paper
@@ -35,15 +35,6 @@ key_text CanWrite = bytes "  can_write:"
 abbrev pub most_key : ℕ
 most_key = 22
 
--- the first so many places of a number, from its lowest byte up to a byte that is 0
-unfoldable pub places_up_to : ℕ → ℕ → List ℕ
-places_up_to zero packed = []
-places_up_to (suc k) packed = cond (eqb (packed % 256) 0) [] (packed % 256 ∷ places_up_to k (packed / 256))
-
--- a number of 64 bits holds eight
-abbrev pub places_in : ℕ → List ℕ
-places_in packed = places_up_to 8 packed
-
 -- what a row says, of the code and of the paper
 pub record Said : Type 0 where
   pub key : List ℕ
@@ -53,7 +44,7 @@ pub record Said : Type 0 where
   pub last : Bool
 
 abbrev pub seen : Row → Said
-seen r = record { key = key_text r.key; value = r.value; block = places_in r.block; next = places_in r.next; last = r.last }
+seen r = record { key = key_text r.key; value = r.value; block = r.block.now; next = r.next.now; last = r.last }
 
 abbrev pub told : paper.Row → Said
 told r = record { key = bytes r.key; value = r.value; block = r.block; next = r.next; last = r.last }

@@ -1,5 +1,6 @@
 -- One line of a text, and one byte of a line.
 use mathlib.Core.Path.{◌≡◌, refl, sym, ap, ◌∙◌}
+use Rattle.std.specs.Prelude.{Option, Some, None}
 use mathlib.Core.Bool.{Bool, true, false, cond, not, ◌&&◌, ◌||◌, and_assoc, and-true, false≢true}
 use mathlib.Core.List.{List, [], ◌∷◌}
 use Prim.Native.Nat.{ℕ, zero, suc, ◌+◌, ◌-◌, ◌<◌, ◌≤◌}
@@ -8,7 +9,7 @@ use native.Mathlib.Omega.{arith}
 use lib.Dec.{eqb}
 use lib.ListN.{length, get_or, take, drop, length-drop, drop_of_length-le}
 use lib.Seq.{drop-length, get_or-drop}
-use borrow.Author.Tests.{eqb-false, eq-eqb, ne_eqb, not-true, not-false}
+use borrow.Author.Tests.{eqb-true, eqb-false, eq-eqb, ne_eqb, not-true, not-false}
 use Rattle.paper.specs.Common.{within, all_of}
 use Rattle.paper.specs.Text.{Line, next_byte, end_at, return_before_feed, lines_from, with_byte, on_line, column, skipped, may_stand, bad_byte_line}
 use Rattle.laws.specs.Pieces.{before}
@@ -18,10 +19,9 @@ use Rattle.laws.proofs.Places.{drop_more}
 use Rattle.laws.proofs.Tests.{both_left, both_right, both_false}
 use Rattle.laws.proofs.Standing.{feed_no_return, none_bad}
 use Rattle.laws.proofs.Bytes.{find_again, find_here}
-use Rattle.laws.proofs.Chains.{tested_true}
 use Rattle.laws.proofs.Counting.{all_of_at}
-use Rattle.text_lines.specs.Plain.{is_plain}
-use Rattle.text_lines.specs.Splits.{Splits, goes_on, four_go_on, eight_go_on, sixteen_go_on, held_bytes}
+use Rattle.text_lines.specs.Plain.{is_plain, line_if}
+use Rattle.text_lines.specs.Splits.{Splits, goes_on, held_bytes}
 
 -- ---- the way to the end of a line
 
@@ -29,44 +29,24 @@ pub both_are : (a b x y : Bool) → a ≡ x → b ≡ y → (a && b) ≡ (x && y
 both_are a b x y e f = rw (e, f) refl
 
 module _ (t : List ℕ) (at : ℕ) where
-  module _ (i : ℕ) (inv : i + before 10 (drop i t) ≡ at + before 10 (drop at t)) where
-    goes_on_lem : i < length t → goes_on t i ≡ true → i + 1 + before 10 (drop (i + 1) t) ≡ at + before 10 (drop at t)
-    goes_on_lem h e = find_again 10 t at i inv h (eqb-false (get_or t i 0) 10 (not-true (eqb (get_or t i 0) 10) e))
+  -- n bytes on, where none of them ends the line
+  passed : (n i : ℕ) → i + before 10 (drop i t) ≡ at + before 10 (drop at t) → i + n ≤ length t → all_of goes_on (take n (drop i t)) ≡ true
+      → i + n + before 10 (drop (i + n) t) ≡ at + before 10 (drop at t)
+  unfolding all_of
+  passed zero i inv h e = let z : i + 0 ≡ i = omega arith in rw z inv
+  passed (suc n) i inv h e =
+      let more : all_of goes_on (get_or t i 0 ∷ take n (drop (i + 1) t)) ≡ true = let k : i < length t = omega arith in rw (drop_more t i k) at e in
+      let one : i + 1 + before 10 (drop (i + 1) t) ≡ at + before 10 (drop at t) =
+      find_again 10 t at i inv (omega arith) (eqb-false (get_or t i 0) 10 (not-true (eqb (get_or t i 0) 10) (both_left (goes_on (get_or t i 0)) (all_of goes_on (take n (drop (i + 1) t))) more))) in
+      let q : i + 1 + n ≡ i + suc n = omega arith in
+      rw q at (passed n (i + 1) one (omega arith) (both_right (goes_on (get_or t i 0)) (all_of goes_on (take n (drop (i + 1) t))) more))
 
-  four_on : (i : ℕ) → i + before 10 (drop i t) ≡ at + before 10 (drop at t) → i + 4 ≤ length t → four_go_on t i ≡ true
-      → i + 4 + before 10 (drop (i + 4) t) ≡ at + before 10 (drop at t)
-  four_on i inv h four =
-      let three : (goes_on t i && goes_on t (i + 1) && goes_on t (i + 2)) ≡ true = both_left (goes_on t i && goes_on t (i + 1) && goes_on t (i + 2)) (goes_on t (i + 3)) four in
-      let two : (goes_on t i && goes_on t (i + 1)) ≡ true = both_left (goes_on t i && goes_on t (i + 1)) (goes_on t (i + 2)) three in
-      let p : i + 1 + 1 ≡ i + 2 = omega arith in
-      let q : i + 2 + 1 ≡ i + 3 = omega arith in
-      let z : i + 3 + 1 ≡ i + 4 = omega arith in
-      let a : i + 1 + before 10 (drop (i + 1) t) ≡ at + before 10 (drop at t) = goes_on_lem i inv (omega arith) (both_left (goes_on t i) (goes_on t (i + 1)) two) in
-      let b : i + 2 + before 10 (drop (i + 2) t) ≡ at + before 10 (drop at t) = rw p at (goes_on_lem (i + 1) a (omega arith) (both_right (goes_on t i) (goes_on t (i + 1)) two)) in
-      let c : i + 3 + before 10 (drop (i + 3) t) ≡ at + before 10 (drop at t) = rw q at (goes_on_lem (i + 2) b (omega arith) (both_right (goes_on t i && goes_on t (i + 1)) (goes_on t (i + 2)) three)) in
-      rw z at (goes_on_lem (i + 3) c (omega arith) (both_right (goes_on t i && goes_on t (i + 1) && goes_on t (i + 2)) (goes_on t (i + 3)) four))
-
-  eight_on : (i : ℕ) → i + before 10 (drop i t) ≡ at + before 10 (drop at t) → i + 8 ≤ length t → eight_go_on t i ≡ true
-      → i + 8 + before 10 (drop (i + 8) t) ≡ at + before 10 (drop at t)
-  eight_on i inv h e =
-      let half : i + 4 + before 10 (drop (i + 4) t) ≡ at + before 10 (drop at t) = four_on i inv (omega arith) (both_left (four_go_on t i) (four_go_on t (i + 4)) e) in
-      let z : i + 4 + 4 ≡ i + 8 = omega arith in
-      rw z at (four_on (i + 4) half (omega arith) (both_right (four_go_on t i) (four_go_on t (i + 4)) e))
-
-  pub sixteen_again : (i : ℕ) → i + before 10 (drop i t) ≡ at + before 10 (drop at t) → i + 16 ≤ length t → (r : Bool) → r ≡ sixteen_go_on t i → not r ≡ false
+  pub sixteen_again : (i : ℕ) → i + before 10 (drop i t) ≡ at + before 10 (drop at t) → i + 16 ≤ length t → (r : Bool) → r ≡ all_of goes_on (take 16 (drop i t)) → not r ≡ false
       → i + 16 + before 10 (drop (i + 16) t) ≡ at + before 10 (drop at t)
-  sixteen_again i inv h r e u =
-      let both : sixteen_go_on t i ≡ true = tested_true (sixteen_go_on t i) r e u in
-      let half : i + 8 + before 10 (drop (i + 8) t) ≡ at + before 10 (drop at t) = eight_on i inv (omega arith) (both_left (eight_go_on t i) (eight_go_on t (i + 8)) both) in
-      let z : i + 8 + 8 ≡ i + 16 = omega arith in
-      rw z at (eight_on (i + 8) half (omega arith) (both_right (eight_go_on t i) (eight_go_on t (i + 8)) both))
+  sixteen_again i inv h r e u = passed 16 i inv h (sym e ∙ not-false r u)
 
-  pub eight_past : at + 8 ≤ length t → (r : Bool) → r ≡ eight_go_on t at → r ≡ true → (i : ℕ) → i + before 10 (drop i t) ≡ at + 8 + before 10 (drop (at + 8) t)
-      → i + before 10 (drop i t) ≡ at + before 10 (drop at t)
-  eight_past h r e u i f = f ∙ eight_on at refl h (sym e ∙ u)
-
-  pub four_past : at + 4 ≤ length t → (r : Bool) → r ≡ four_go_on t at → r ≡ true → at + 4 + before 10 (drop (at + 4) t) ≡ at + before 10 (drop at t)
-  four_past h r e u = four_on at refl h (sym e ∙ u)
+  pub past_passed : (n : ℕ) → at + n ≤ length t → (r : Bool) → r ≡ all_of goes_on (take n (drop at t)) → r ≡ true → at + n + before 10 (drop (at + n) t) ≡ at + before 10 (drop at t)
+  past_passed n h r e u = passed n at refl h (sym e ∙ u)
 
   pub ends_here : at < length t → get_or t at 0 ≡ 10 → at ≡ at + before 10 (drop at t)
   ends_here h e = find_here 10 t at at refl h e
@@ -302,8 +282,8 @@ unfolding all_of all_stand may_stand
 plain_stands [] e = refl
 plain_stands (b ∷ bs) e = rw (both_left (is_plain b) (all_of is_plain bs) e) (plain_stands bs (both_right (is_plain b) (all_of is_plain bs) e))
 
-pub plain_none : (t : List ℕ) (r : Bool) → r ≡ all_of is_plain t → r ≡ true → 0 ≡ bad_byte_line 1 t
-plain_none t r e h = sym (none_bad 1 t (plain_stands t (sym e ∙ h)))
+pub plain_none : (t : List ℕ) (r : Bool) → r ≡ all_of is_plain t → r ≡ true → None ≡ line_if (bad_byte_line 1 t)
+plain_none t r e h = rw (none_bad 1 t (plain_stands t (sym e ∙ h)))
 
 -- CR is not plain
 pub plain_not : (t : List ℕ) → 2 ≤ length t → get_or t (length t - 2) 0 ≡ 13 → false ≡ all_of is_plain t
@@ -322,25 +302,32 @@ stand_more : (t : List ℕ) (i : ℕ) → i < length t → all_stand (drop i t) 
 unfolding all_stand
 stand_more t i h = rw (drop_more t i h, next_is t (i + 1)) refl
 
-module _ (t : List ℕ) (i : ℕ) (right : Bool) (inv : (right && all_stand (drop i t)) ≡ all_stand t) where
-  pub stand_again : (r : Bool) → i + 1 < length t → r ≡ may_stand (get_or t i 0) (get_or t (i + 1) 0) → (right && r && all_stand (drop (i + 1) t)) ≡ all_stand t
-  stand_again r h e =
-      rw (← inv, stand_more t i (omega arith), e) (and_assoc right (may_stand (get_or t i 0) (get_or t (i + 1) 0)) (all_stand (drop (i + 1) t)))
-
-  pub stand_last : (r : Bool) (n : ℕ) → i < length t → length t ≤ i + 1 → n ≡ get_or t (i + 1) 0 → r ≡ may_stand (get_or t i 0) n → not (right && r) ≡ not (all_stand t)
-  unfolding all_stand
-  stand_last r n h k f e =
-      rw (← inv, stand_more t i h, e, f, drop_of_length-le t k, and-true)
-
-  pub stand_none : length t ≤ i → not right ≡ not (all_stand t)
-  unfolding all_stand
-  stand_none h = rw (← inv, drop_of_length-le t h, and-true)
-
 pub behind_none : (t : List ℕ) (i : ℕ) → length t ≤ i + 1 → 0 ≡ get_or t (i + 1) 0
 behind_none t i h = sym (ap next_byte (drop_of_length-le t h)) ∙ next_is t (i + 1)
 
-pub bad_nowhere : (t : List ℕ) (r : Bool) → r ≡ not (all_stand t) → not r ≡ true → 0 ≡ bad_byte_line 1 t
-bad_nowhere t r e h = sym (none_bad 1 t (go (all_stand t) r e h))
+-- the bytes before the one before i may stand, and those from it on, exactly where all may
+module _ (t : List ℕ) (i : ℕ) (right : Bool) (inv : (right && all_stand (drop (i - 1) t)) ≡ all_stand t) where
+  pub stand_again : (r : Bool) → 1 ≤ i → i < length t → r ≡ may_stand (get_or t (i - 1) 0) (get_or t i 0) → (right && r && all_stand (drop (i + 1 - 1) t)) ≡ all_stand t
+  stand_again r f h e =
+      let p : i - 1 + 1 ≡ i = omega arith in
+      let q : i + 1 - 1 ≡ i = omega arith in
+      rw (← inv, stand_more t (i - 1) (omega arith), p, q, e) (and_assoc right (may_stand (get_or t (i - 1) 0) (get_or t i 0)) (all_stand (drop i t)))
+
+  pub stand_last : (r : Bool) → 1 ≤ length t → i ≡ length t → r ≡ may_stand (get_or t (length t - 1) 0) 0 → not (right && r) ≡ not (all_stand t)
+  unfolding all_stand
+  stand_last r f h e =
+      let p : i - 1 + 1 ≡ length t = omega arith in
+      let q : i - 1 ≡ length t - 1 = omega arith in
+      let z : 0 ≡ get_or t (length t) 0 = rw p at (behind_none t (i - 1) (omega arith)) in
+      let n : drop (length t) t ≡ [] = drop-length t in
+      rw (← inv, stand_more t (i - 1) (omega arith), p, q, ← z, e, n, and-true)
+
+  pub stand_none : length t ≤ i - 1 → not right ≡ not (all_stand t)
+  unfolding all_stand
+  stand_none h = rw (← inv, drop_of_length-le t h, and-true)
+
+pub bad_nowhere : (t : List ℕ) (r : Bool) → r ≡ not (all_stand t) → not r ≡ true → None ≡ line_if (bad_byte_line 1 t)
+bad_nowhere t r e h = rw (none_bad 1 t (go (all_stand t) r e h))
   where
     go : (x y : Bool) → y ≡ not x → not y ≡ true → x ≡ true
     go true y f g = refl
@@ -348,6 +335,10 @@ bad_nowhere t r e h = sym (none_bad 1 t (go (all_stand t) r e h))
 
 pub behind_line : (b n : ℕ) → b ≡ 10 → n + 1 ≡ cond (eqb b 10) (n + 1) n
 behind_line b n e = rw (eq-eqb b 10 e)
+
+pub behind_from : (t : Bool) (n m : ℕ) → 1 ≤ n → m ≡ cond t (n + 1) n → 1 ≤ m
+behind_from true n m h e = omega arith
+behind_from false n m h e = omega arith
 
 pub behind_else : (b n : ℕ) → (b ≡ 10 → ⊥) → n ≡ cond (eqb b 10) (n + 1) n
 behind_else b n e = rw (ne_eqb b 10 e)
@@ -363,11 +354,12 @@ module _ (t : List ℕ) (i n : ℕ) (inv : bad_byte_line n (drop i t) ≡ bad_by
   bad_again r next m h z e f g =
       let k : may_stand (get_or t i 0) (get_or t (i + 1) 0) ≡ true = rw z at (sym e ∙ not-false r f) in rw (← bad_opened h, k, g) refl
 
-  pub bad_here : (r : Bool) (next : ℕ) → i < length t → next ≡ get_or t (i + 1) 0 → r ≡ may_stand (get_or t i 0) next → not r ≡ true → n ≡ bad_byte_line 1 t
-  bad_here r next h z e f =
-      let k : may_stand (get_or t i 0) (get_or t (i + 1) 0) ≡ false = rw z at (sym e ∙ not-true r f) in rw (← bad_opened h, k) refl
+  pub bad_here : (r : Bool) (next : ℕ) → i < length t → next ≡ get_or t (i + 1) 0 → r ≡ may_stand (get_or t i 0) next → not r ≡ true → 1 ≤ n → Some n ≡ line_if (bad_byte_line 1 t)
+  bad_here r next h z e f one =
+      let k : may_stand (get_or t i 0) (get_or t (i + 1) 0) ≡ false = rw z at (sym e ∙ not-true r f) in
+      rw (← bad_opened h, k, ne_eqb n 0 (λ y. omega arith))
 
-  pub bad_none : length t ≤ i → 0 ≡ bad_byte_line 1 t
+  pub bad_none : length t ≤ i → None ≡ line_if (bad_byte_line 1 t)
   unfolding bad_byte_line
   bad_none h = rw (← inv, drop_of_length-le t h)
 
@@ -381,3 +373,23 @@ module _ (f : ℕ → Bool) (s : List ℕ) (i : ℕ) (right : Bool) (inv : (righ
   pub right_done : length s ≤ i → right ≡ all_of f s
   unfolding all_of
   right_done h = rw (← inv, drop_of_length-le s h, and-true)
+
+-- ---- the line of a bad byte, if there is one
+
+module _ (n : ℕ) (r : Option ℕ) (e : r ≡ line_if n) where
+  pub is_line : (line : ℕ) → r ≡ Some line → line ≡ n
+  is_line line f = go (eqb n 0) e
+    where
+      go : (t : Bool) → r ≡ cond t None (Some n) → line ≡ n
+      go true g = absurd (let z : ◌≡◌ {A = ℕ} 0 1 = cc in omega arith)
+      go false g = cc
+
+  pub is_some_line : (line : ℕ) → r ≡ Some line → (line ≡ 0 → ⊥)
+  is_some_line line f z = let g : r ≡ None = rw (sym (is_line line f) ∙ z) at e in let y : ◌≡◌ {A = ℕ} 0 1 = cc in omega arith
+
+  pub is_no_line : r ≡ None → n ≡ 0
+  is_no_line f = go (eqb n 0) refl e
+    where
+      go : (t : Bool) → eqb n 0 ≡ t → r ≡ cond t None (Some n) → n ≡ 0
+      go true h g = eqb-true n 0 h
+      go false h g = absurd (let z : ◌≡◌ {A = ℕ} 0 1 = cc in omega arith)

@@ -1,5 +1,5 @@
 -- What it is to split off one line: whoever reads lines stands on this and on nothing else.
-use Rattle.std.specs.Prelude.{◌≡◌, Bool, true, cond, not, ◌&&◌, List, [], ◌∷◌, ℕ, suc, ◌+◌, ◌-◌, ◌<◌, ◌≤◌, eqb, length, get_or, take, drop}
+use Rattle.std.specs.Prelude.{◌≡◌, Bool, true, cond, not, List, [], ◌∷◌, ℕ, suc, ◌-◌, ◌<◌, ◌≤◌, eqb, length, take, drop}
 use Rattle.paper.specs.Text.{line_feed, next_byte, return_before_feed, lines_from}
 use Rattle.text_lines.specs.declared.LineAt.{LineAt}
 
@@ -20,17 +20,6 @@ unfoldable pub held_bytes : List ℕ → ℕ
 held_bytes [] = 0
 held_bytes (b ∷ bs) = cond (return_before_feed b (next_byte bs)) 0 (cond (eqb b line_feed) 0 (suc (held_bytes bs)))
 
--- a line goes on behind this place: the byte there does not end it
-abbrev pub goes_on : List ℕ → ℕ → Bool
-goes_on t i = not (eqb (get_or t i 0) line_feed)
-
--- and behind the three after it
-abbrev pub four_go_on : List ℕ → ℕ → Bool
-four_go_on t i = goes_on t i && goes_on t (i + 1) && goes_on t (i + 2) && goes_on t (i + 3)
-
--- and so on, twice as far each time
-abbrev pub eight_go_on : List ℕ → ℕ → Bool
-eight_go_on t i = four_go_on t i && four_go_on t (i + 4)
-
-abbrev pub sixteen_go_on : List ℕ → ℕ → Bool
-sixteen_go_on t i = eight_go_on t i && eight_go_on t (i + 8)
+-- a line goes on behind this byte: it does not end it
+abbrev pub goes_on : ℕ → Bool
+goes_on b = not (eqb b line_feed)

@@ -2,13 +2,13 @@
 // How a line ends is known here and nowhere else.
 #![tactic(auto)]
 
-ghost use Rattle.std.specs.Prelude.{◌≡◌, cond, not, ◌+◌, ◌^◌, ◌<◌, ◌≤◌, eqb, length, get_or, drop};
+ghost use Rattle.std.specs.Prelude.{◌≡◌, cond, not, ◌+◌, ◌^◌, ◌<◌, ◌≤◌, eqb, length, get_or, take, drop};
 ghost use Rattle.paper.specs.Common.{all_of};
 ghost use Rattle.paper.specs.Text.{line_feed, may_stand, bad_byte_line, column, skipped};
 ghost use Rattle.laws.specs.Pieces.{before};
 ghost use Rattle.laws.specs.Standing.{all_stand};
-ghost use Rattle.text_lines.specs.Plain.{is_plain};
-ghost use Rattle.text_lines.specs.Splits.{Splits, four_go_on, eight_go_on, sixteen_go_on, held_bytes};
+ghost use Rattle.text_lines.specs.Plain.{is_plain, line_if};
+ghost use Rattle.text_lines.specs.Splits.{Splits, goes_on, held_bytes};
 
 use text_bytes::byte;
 
@@ -20,39 +20,27 @@ pub struct LineAt {
     pub ended: bool,
 }
 
-// None of the four bytes from a place on ends the line.
-fn four_go_on(text: &[u8], i: usize) -> bool
-    requires { i + 4 ≤ length text.now }
-    ensures { result ≡ four_go_on text.now i }
+// None of the N bytes from a place on ends the line. The loop has no exit, so that they are looked at together.
+fn go_on<const N: usize>(text: &[u8], i: usize) -> bool
+    requires { i + N ≤ length text.now }
+    ensures { result ≡ all_of goes_on (take N (drop i text.now)) }
 {
-    (text[i] != byte::LINE_FEED)
-        & (text[i + 1] != byte::LINE_FEED)
-        & (text[i + 2] != byte::LINE_FEED)
-        & (text[i + 3] != byte::LINE_FEED)
-}
-
-fn eight_go_on(text: &[u8], i: usize) -> bool
-    requires { i + 8 ≤ length text.now }
-    ensures { result ≡ eight_go_on text.now i }
-{
-    four_go_on(text, i) & four_go_on(text, i + 4)
-}
-
-fn sixteen_go_on(text: &[u8], i: usize) -> bool
-    requires { i + 16 ≤ length text.now }
-    ensures { result ≡ sixteen_go_on text.now i }
-{
-    eight_go_on(text, i) & eight_go_on(text, i + 8)
+    let mut right = true;
+    for b in &text[i..i + N] {
+        right = right & (*b != byte::LINE_FEED);
+    }
+    right
 }
 
 // A place on the line, less than sixteen bytes before its end: the way there goes by sixteen bytes at a time.
+// No `for` steps by sixteen to a place that the loop is to answer.
 fn by_sixteen(text: &[u8], at: usize) -> usize
     requires { at < length text.now }
     ensures { (result + before line_feed (drop result text.now) ≡ at + before line_feed (drop at text.now)) × (result ≤ length text.now) }
 {
     let mut i = at;
     while i + 16 <= text.len() {
-        if !sixteen_go_on(text, i) {
+        if !go_on::<16>(text, i) {
             return i;
         }
         i += 16;
@@ -60,30 +48,16 @@ fn by_sixteen(text: &[u8], at: usize) -> usize
     i
 }
 
-// Four bytes on, where the line goes on so far.
-fn past_four(text: &[u8], at: usize) -> usize
+// N bytes on, where the line goes on so far.
+fn past<const N: usize>(text: &[u8], at: usize) -> usize
     requires { at ≤ length text.now }
-    ensures { result + before line_feed (drop result text.now) ≡ at + before line_feed (drop at text.now) }
+    ensures { (result + before line_feed (drop result text.now) ≡ at + before line_feed (drop at text.now)) × (result ≤ length text.now) }
 {
-    if text.len() < at + 4 {
+    if text.len() - at < N {
         return at;
     }
-    if four_go_on(text, at) {
-        return at + 4;
-    }
-    at
-}
-
-// Eight bytes on, perhaps four more.
-fn past_eight(text: &[u8], at: usize) -> usize
-    requires { at ≤ length text.now }
-    ensures { result + before line_feed (drop result text.now) ≡ at + before line_feed (drop at text.now) }
-{
-    if text.len() < at + 8 {
-        return at;
-    }
-    if eight_go_on(text, at) {
-        return past_four(text, at + 8);
+    if go_on::<N>(text, at) {
+        return at + N;
     }
     at
 }
@@ -93,7 +67,7 @@ fn near_end(text: &[u8], at: usize) -> usize
     requires { at < length text.now }
     ensures { result + before line_feed (drop result text.now) ≡ at + before line_feed (drop at text.now) }
 {
-    past_eight(text, by_sixteen(text, at))
+    past::<4>(text, past::<8>(text, by_sixteen(text, at)))
 }
 
 fn line_end(text: &[u8], at: usize) -> usize
@@ -143,24 +117,21 @@ pub fn line_at(text: &[u8], at: usize) -> LineAt
 pub fn column(l: &[u8]) -> usize
     ensures { (result ≡ column l.now) × (result ≤ length l.now) }
 {
-    let mut i: usize = 0;
-    while i < l.len() {
-        if l[i] != byte::SPACE {
+    for (i, b) in l.iter().enumerate() {
+        if *b != byte::SPACE {
             return i;
         }
-        i += 1;
     }
-    i
+    l.len()
 }
 
 pub fn skipped(l: &[u8]) -> bool
     ensures { result ≡ skipped l.now }
 {
-    let k = column(l);
-    if l.len() <= k {
-        return true;
+    match l.get(column(l)) {
+        None => true,
+        Some(b) => *b == byte::HASH,
     }
-    l[k] == byte::HASH
 }
 
 // A byte that may stand before any other.
@@ -174,17 +145,12 @@ fn is_plain(b: u8) -> bool
 fn all_plain(text: &[u8]) -> bool
     ensures { result ≡ all_of is_plain text.now }
 {
-    let size = text.len();
-    if 2 <= size {
-        if text[size - 2] == byte::CARRIAGE_RETURN {
-            return false;
-        }
+    if let [.., byte::CARRIAGE_RETURN, _] = text {
+        return false;
     }
     let mut right = true;
-    let mut i: usize = 0;
-    while i < text.len() {
-        right = right & is_plain(text[i]);
-        i += 1;
+    for b in text {
+        right = right & is_plain(*b);
     }
     right
 }
@@ -202,10 +168,7 @@ fn byte_behind(text: &[u8], i: usize) -> u8
     requires { i < length text.now }
     ensures { result ≡ get_or text.now (i + 1) 0 }
 {
-    if i + 1 < text.len() {
-        return text[i + 1];
-    }
-    0
+    text.get(i + 1).copied().unwrap_or(0)
 }
 
 // Some byte may not stand. The loop has no exit, so that it takes many bytes at a time; the last byte has none behind it.
@@ -213,13 +176,11 @@ fn has_bad_byte(text: &[u8]) -> bool
     ensures { result ≡ not (all_stand text.now) }
 {
     let mut right = true;
-    let mut i: usize = 0;
-    while i + 1 < text.len() {
-        right = right & may_stand(text[i], text[i + 1]);
-        i += 1;
+    for i in 1..text.len() {
+        right = right & may_stand(text[i - 1], text[i]);
     }
-    if i < text.len() {
-        return !(right & may_stand(text[i], byte_behind(text, i)));
+    if let [.., last] = text {
+        return !(right & may_stand(*last, 0));
     }
     !right
 }
@@ -235,28 +196,25 @@ fn line_behind(b: u8, line: usize) -> usize
     line
 }
 
-// No line: lines are numbered from 1.
+// No line in a refusal that has none: lines are numbered from 1.
 pub const NO_LINE: usize = 0;
 
-// The line of the first byte that may not stand. Most texts are plain, which is seen in half the time; lines are counted only where a bad byte is.
-pub fn bad_byte_line(text: &[u8]) -> usize
-    ensures { result ≡ bad_byte_line 1 text.now }
+// The line of the first byte that may not stand, if there is one. Most texts are plain, which is seen in half the time; lines are counted only where a bad byte is.
+pub fn bad_byte_line(text: &[u8]) -> Option<usize>
+    ensures { result ≡ line_if (bad_byte_line 1 text.now) }
 {
     if all_plain(text) {
-        return NO_LINE;
+        return None;
     }
     if !has_bad_byte(text) {
-        return NO_LINE;
+        return None;
     }
     let mut line: usize = 1;
-    let mut i: usize = 0;
-    while i < text.len() {
-        let b = text[i];
-        if !may_stand(b, byte_behind(text, i)) {
-            return line;
+    for (i, b) in text.iter().enumerate() {
+        if !may_stand(*b, byte_behind(text, i)) {
+            return Some(line);
         }
-        line = line_behind(b, line);
-        i += 1;
+        line = line_behind(*b, line);
     }
-    NO_LINE
+    None
 }

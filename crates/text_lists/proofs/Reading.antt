@@ -15,13 +15,11 @@ use Rattle.laws.specs.Pieces.{before}
 use Rattle.laws.proofs.Tests.{both_left, both_right, both_true, both_false}
 use Rattle.laws.proofs.Places.{drop_more}
 use Rattle.laws.proofs.Pieces.{cut_some}
-use Rattle.text_bytes.specs.Classes.{part_byte}
-use Rattle.text_bytes.specs.Marks.{run}
-use Rattle.text_bytes.specs.declared.Class.TheVariants.{IdentifierByte}
+use Rattle.text_bytes.specs.Classes.{part_of, run}
 use Rattle.text_lists.specs.Reading.{element_ends, bar_stands}
 
 abbrev pub plain : ℕ → Bool
-plain = part_byte IdentifierByte
+plain = part_of identifier_byte
 
 -- ---- what stands at a place
 

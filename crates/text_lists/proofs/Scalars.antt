@@ -23,38 +23,22 @@ use Rattle.laws.specs.Pieces.{before}
 use Rattle.laws.proofs.Tests.{both_left, both_true, both_false}
 use Rattle.laws.proofs.Counting.{all_of_weaker}
 use Rattle.laws.proofs.Chains.{tested_false, tested_true}
-use Rattle.text_bytes.specs.Classes.{part_byte}
-use Rattle.text_bytes.specs.Marks.{Marks, run}
-use Rattle.text_bytes.specs.declared.Class.{Class}
-use Rattle.text_bytes.specs.declared.Class.TheVariants.{NameByte, IdentifierByte}
+use Rattle.text_bytes.specs.Classes.{part_of, run}
 use Rattle.laws.proofs.Pieces.{before_within, piece_within}
-use Rattle.text_scalars.specs.Classed.{class_of}
 use Rattle.text_scalars.proofs.Classed.{name_in_identifier, all_bytes}
-use Rattle.text_lists.specs.Walk.{element_at, elements_left, SpacedFrom}
+use Rattle.text_lists.specs.Walk.{element_to, element_at, elements_left, SpacedFrom}
 use Rattle.text_lists.specs.Reading.{element_from, end_from, element_ends, bar_stands, read_if, read_at}
-use Rattle.text_lists.specs.declared.Read.{Read}
-use Rattle.text_lists.specs.declared.Read.TheVariants.{Ends, Wrong}
+use Rattle.std.specs.Prelude.{Option, Some, None}
 use Rattle.text_lists.proofs.Walk.{element_found, left_found, spaced_found}
 use Rattle.text_lists.proofs.Reading.{plain, parts_test, ended_at, barred_at, no_bar_at, no_end_at, end_is, end_behind, all_of_run, not_ended, before_ended}
 
--- ---- the table of a scalar's class
-
-pub marks_of : (scalar : Scalar) (class : Class) (t : List ℕ) → class_of scalar ≡ class → Marks (part_byte class) t → Marks (part_byte (class_of scalar)) t
-marks_of scalar class t e m = rw e m
-
 -- ---- what a reading says
-
-pub read_if_right : (right : Bool) (end : ℕ) → right ≡ true → Ends end ≡ read_if right end
-read_if_right right end t = rw t
 
 pub begins_is : (s : List ℕ) (at end : ℕ) (first : Bool) → first ≡ identifier_first (get_or s at 0) → (leb (end - at) 128 && first) ≡ (leb (end - at) 128 && identifier_first (get_or s at 0))
 begins_is s at end first e = rw e
 
-pub marks_known : (known scalar : Scalar) (t : List ℕ) → scalar ≡ known → Marks (part_byte (class_of scalar)) t → Marks (part_byte (class_of known)) t
-marks_known known scalar t e m = rw e at m
-
-module _ (k : Scalar) (s : List ℕ) (at : ℕ) (r : Read) (q : r ≡ read_at k s at) where
-  pub read_wrong : r ≡ Wrong → is_scalar k (element_from s at) ≡ false
+module _ (k : Scalar) (s : List ℕ) (at : ℕ) (r : Option ℕ) (q : r ≡ read_at k s at) where
+  pub read_wrong : r ≡ None → is_scalar k (element_from s at) ≡ false
   unfolding read_at
   read_wrong n = go (is_scalar k (element_from s at)) q
     where
@@ -62,7 +46,7 @@ module _ (k : Scalar) (s : List ℕ) (at : ℕ) (r : Read) (q : r ≡ read_at k 
       go true e = absurd (let z : ◌≡◌ {A = ℕ} 0 1 = cc in omega arith)
       go false e = refl
 
-  module _ (end : ℕ) (n : r ≡ Ends end) where
+  module _ (end : ℕ) (n : r ≡ Some end) where
     pub read_right : is_scalar k (element_from s at) ≡ true
     unfolding read_at
     read_right = go (is_scalar k (element_from s at)) q
@@ -87,7 +71,7 @@ module _ (k : Scalar) (s : List ℕ) (at : ℕ) (r : Read) (q : r ≡ read_at k 
 
     pub spaced_read : at ≤ length s → SpacedFrom s at → SpacedFrom s (end + 2)
     spaced_read h w =
-        rw read_ends (spaced_found s at (element_at s at) refl (end_from s at) (end_from s at + 2) (sym (element_found s at (end_from s at) refl h)) w)
+        rw read_ends (spaced_found s at (element_at s at) refl (element_to (end_from s at)) (sym (element_found s at (end_from s at) refl h)) w)
 
     pub read_fits : at ≤ length s → length s * 1 < 2 ^ 63 → Fits w64 (end + 2)
     read_fits h l = omega (arith, read_within h)
@@ -98,7 +82,7 @@ module _ (s : List ℕ) (at : ℕ) (h : at ≤ length s) (w : SpacedFrom s at) w
   pub left_read : elements_left s at ≡ element_from s at ∷ elements_left s (end_from s at + 2)
   left_read =
       let p : end_from s at - at ≡ before comma (drop at s) = omega arith in
-      left_found s at (element_at s at) refl (end_from s at) (end_from s at + 2) (sym (element_found s at (end_from s at) refl h)) w
+      left_found s at (element_at s at) refl (element_to (end_from s at)) (sym (element_found s at (end_from s at) refl h)) w
       ∙ ap (λ (n : ℕ). take n (drop at s) ∷ elements_left s (end_from s at + 2)) p
 
 -- ---- identifiers
@@ -112,9 +96,9 @@ run_within p (b ∷ bs) = go (p b) (run_within p bs)
     go true k = omega arith
     go false k = omega arith
 
-module _ (class : Class) (s : List ℕ) (at a : ℕ) (fa : a ≡ at + run (part_byte class) (drop at s)) where
+module _ (f : ℕ → Bool) (s : List ℕ) (at a : ℕ) (fa : a ≡ at + run (part_of f) (drop at s)) where
   pub part_within : at ≤ length s → a ≤ length s
-  part_within h = omega (arith, run_within (part_byte class) (drop at s), length-drop at s)
+  part_within h = omega (arith, run_within (part_of f) (drop at s), length-drop at s)
 
 module _ (kind : Kind) (s : List ℕ) (at : ℕ) where
   identifier_not : parts_test (parts_fit kind) (drop at s) ≡ false → is_identifier kind (element_from s at) ≡ false
@@ -176,7 +160,7 @@ module _ (s : List ℕ) (a : ℕ) (told : Bool) (e : told ≡ bar_stands (drop a
   begins_within at fa = omega (arith, bar_within s a told e t)
 
   pub last_to : (d : ℕ) → d ≡ a + 1 + run plain (drop (a + 1) s) → d ≤ length s
-  last_to d fd = let w : a < length s = bar_within s a told e t in part_within IdentifierByte s (a + 1) d fd (omega arith)
+  last_to d fd = let w : a < length s = bar_within s a told e t in part_within identifier_byte s (a + 1) d fd (omega arith)
 
 module _ (s : List ℕ) (at a b : ℕ) (fa : a ≡ at + run plain (drop at s)) (fb : b ≡ a + 1 + run plain (drop (a + 1) s)) where
   pub two_parts_from : at ≤ b
@@ -186,12 +170,12 @@ module _ (s : List ℕ) (at a b : ℕ) (fa : a ≡ at + run plain (drop at s)) (
   four_parts_from c d fc fd = omega arith
 
 module _ (s : List ℕ) (at a : ℕ) (fa : a ≡ at + run plain (drop at s)) (told : Bool) (e : told ≡ bar_stands (drop a s)) where
-  pub subject_no_bar : not told ≡ true → Wrong ≡ read_at SubjectIdentifier s at
+  pub subject_no_bar : not told ≡ true → None ≡ read_at SubjectIdentifier s at
   unfolding read_at is_scalar
   subject_no_bar t = rw (identifier_not Subject s at (no_bar_at s at a fa (parts_fit Subject) subject_one (tested_false _ told e t)))
 
   module _ (t : not told ≡ false) (b : ℕ) (fb : b ≡ a + 1 + run plain (drop (a + 1) s)) (ends : Bool) (g : ends ≡ element_ends (drop b s)) where
-    pub subject_no_end : not ends ≡ true → Wrong ≡ read_at SubjectIdentifier s at
+    pub subject_no_end : not ends ≡ true → None ≡ read_at SubjectIdentifier s at
     unfolding read_at is_scalar
     subject_no_end u = rw (identifier_not Subject s at (
         barred_at s at a fa (parts_fit Subject) (tested_true _ told e t)
@@ -205,12 +189,12 @@ module _ (s : List ℕ) (at a : ℕ) (fa : a ≡ at + run plain (drop at s)) (to
       unfolding parts_fit all_of
       subject_parts =
           let within : a < length s = bar_within s a told e t in
-          let full : b ≤ length s = part_within IdentifierByte s (a + 1) b fb (omega arith) in
+          let full : b ≤ length s = part_within identifier_byte s (a + 1) b fb (omega arith) in
           barred_at s at a fa (parts_fit Subject) (tested_true _ told e t)
           ∙ ended_at s (a + 1) b fb (λ ps. parts_fit Subject (take (a - at) (drop at s) ∷ ps)) (tested_true _ ends g u)
           ∙ rw (taken_length s at a (omega arith) (omega arith), taken_length s (a + 1) b (omega arith) full, some_between at a (omega arith), some_between (a + 1) b (omega arith), and-true)
 
-      pub subject_read : (begins : Bool) (r : Read) → begins ≡ (leb (b - at) 128 && identifier_first (get_or s at 0))
+      pub subject_read : (begins : Bool) (r : Option ℕ) → begins ≡ (leb (b - at) 128 && identifier_first (get_or s at 0))
           → r ≡ read_if (begins && ltb at a && ltb (a + 1) b) b → r ≡ read_at SubjectIdentifier s at
       unfolding read_at is_scalar
       subject_read begins r f h = rw (h, f, identifier_read Subject s at b subject_ends (omega arith), subject_parts, subject_ends, and_assoc)
@@ -234,7 +218,7 @@ unfolding parts_fit
 object_five v w x y z zs = rw (ne_eqb (suc (suc (suc (suc (suc (length zs)))))) 4 (λ z. omega arith))
 
 module _ (s : List ℕ) (at a : ℕ) (fa : a ≡ at + run plain (drop at s)) (told : Bool) (e : told ≡ bar_stands (drop a s)) where
-  pub object_no_sort : not told ≡ true → Wrong ≡ read_at ObjectIdentifier s at
+  pub object_no_sort : not told ≡ true → None ≡ read_at ObjectIdentifier s at
   unfolding read_at is_scalar
   object_no_sort t = rw (identifier_not Object s at (no_bar_at s at a fa (parts_fit Object) object_one (tested_false _ told e t)))
 
@@ -242,7 +226,7 @@ module _ (s : List ℕ) (at a : ℕ) (fa : a ≡ at + run plain (drop at s)) (to
     behind_sort : parts_test (parts_fit Object) (drop at s) ≡ parts_test (λ ps. parts_fit Object (take (a - at) (drop at s) ∷ ps)) (drop (a + 1) s)
     behind_sort = barred_at s at a fa (parts_fit Object) (tested_true _ told e t)
 
-    pub object_no_path : not told-b ≡ true → Wrong ≡ read_at ObjectIdentifier s at
+    pub object_no_path : not told-b ≡ true → None ≡ read_at ObjectIdentifier s at
     unfolding read_at is_scalar
     object_no_path u = rw (identifier_not Object s at (
         behind_sort
@@ -253,7 +237,7 @@ module _ (s : List ℕ) (at a : ℕ) (fa : a ≡ at + run plain (drop at s)) (to
           ≡ parts_test (λ ps. parts_fit Object (take (a - at) (drop at s) ∷ take (b - (a + 1)) (drop (a + 1) s) ∷ ps)) (drop (b + 1) s)
       behind_path = behind_sort ∙ barred_at s (a + 1) b fb (λ ps. parts_fit Object (take (a - at) (drop at s) ∷ ps)) (tested_true _ told-b eb u)
 
-      pub object_no_line : not told-c ≡ true → Wrong ≡ read_at ObjectIdentifier s at
+      pub object_no_line : not told-c ≡ true → None ≡ read_at ObjectIdentifier s at
       unfolding read_at is_scalar
       object_no_line v = rw (identifier_not Object s at (
           behind_path
@@ -265,14 +249,14 @@ module _ (s : List ℕ) (at a : ℕ) (fa : a ≡ at + run plain (drop at s)) (to
         behind_line = behind_path
             ∙ barred_at s (b + 1) c fc (λ ps. parts_fit Object (take (a - at) (drop at s) ∷ take (b - (a + 1)) (drop (a + 1) s) ∷ ps)) (tested_true _ told-c ec v)
 
-        pub object_no_end : not ends ≡ true → Wrong ≡ read_at ObjectIdentifier s at
+        pub object_no_end : not ends ≡ true → None ≡ read_at ObjectIdentifier s at
         unfolding read_at is_scalar
         object_no_end w = rw (identifier_not Object s at (
             behind_line
             ∙ no_end_at s (c + 1) d fd (λ ps. parts_fit Object (take (a - at) (drop at s) ∷ take (b - (a + 1)) (drop (a + 1) s) ∷ take (c - (b + 1)) (drop (b + 1) s) ∷ ps))
             (λ y z zs. object_five _ _ _ y z zs) (tested_false _ ends g w)))
 
-        pub object_read : (begins fits : Bool) (r : Read) → not ends ≡ false
+        pub object_read : (begins fits : Bool) (r : Option ℕ) → not ends ≡ false
             → fits ≡ parts_fit Object (take (a - at) (drop at s) ∷ take (b - (a + 1)) (drop (a + 1) s) ∷ take (c - (b + 1)) (drop (b + 1) s) ∷ take (d - (c + 1)) (drop (c + 1) s) ∷ [])
             → begins ≡ (leb (d - at) 128 && identifier_first (get_or s at 0)) → r ≡ read_if (begins && fits) d → r ≡ read_at ObjectIdentifier s at
         unfolding read_at is_scalar
@@ -306,15 +290,15 @@ not_all_of p x w h = go (all_of name_byte x) refl
     go true e = absurd (false≢true (sym h ∙ all_of_weaker name_byte p w x e))
     go false e = refl
 
-module _ (class : Class) (no_comma : part_byte class comma ≡ false) (wider : (b : ℕ) → name_byte b ≡ true → part_byte class b ≡ true) (s : List ℕ) (at a : ℕ) (fa : a ≡ at + run (part_byte class) (drop at s)) where
-  stop_is : drop (run (part_byte class) (drop at s)) (drop at s) ≡ drop a s
-  stop_is = rw fa (drop-drop (run (part_byte class) (drop at s)) at s)
+module _ (f : ℕ → Bool) (no_comma : part_of f comma ≡ false) (wider : (b : ℕ) → name_byte b ≡ true → part_of f b ≡ true) (s : List ℕ) (at a : ℕ) (fa : a ≡ at + run (part_of f) (drop at s)) where
+  stop_is : drop (run (part_of f) (drop at s)) (drop at s) ≡ drop a s
+  stop_is = rw fa (drop-drop (run (part_of f) (drop at s)) at s)
 
   no_name_bytes : element_ends (drop a s) ≡ false → all_of name_byte (element_from s at) ≡ false
-  no_name_bytes h = not_all_of (part_byte class) (element_from s at) wider (not_ended (part_byte class) no_comma (drop at s) (ap element_ends stop_is ∙ h))
+  no_name_bytes h = not_all_of (part_of f) (element_from s at) wider (not_ended (part_of f) no_comma (drop at s) (ap element_ends stop_is ∙ h))
 
-  run_is : element_ends (drop a s) ≡ true → before comma (drop at s) ≡ run (part_byte class) (drop at s)
-  run_is h = before_ended (part_byte class) no_comma (drop at s) (ap element_ends stop_is ∙ h)
+  run_is : element_ends (drop a s) ≡ true → before comma (drop at s) ≡ run (part_of f) (drop at s)
+  run_is h = before_ended (part_of f) no_comma (drop at s) (ap element_ends stop_is ∙ h)
 
   ends_there : element_ends (drop a s) ≡ true → end_from s at ≡ a
   ends_there h = omega (arith, run_is h)
@@ -322,8 +306,8 @@ module _ (class : Class) (no_comma : part_byte class comma ≡ false) (wider : (
   element_there : element_ends (drop a s) ≡ true → element_from s at ≡ take (a - at) (drop at s)
   element_there h = let q : before comma (drop at s) ≡ a - at = omega (arith, run_is h) in ap (λ (n : ℕ). take n (drop at s)) q
 
-  run_passes : element_ends (drop a s) ≡ true → all_of (part_byte class) (element_from s at) ≡ true
-  run_passes h = ap (λ (n : ℕ). all_of (part_byte class) (take n (drop at s))) (run_is h) ∙ all_of_run (part_byte class) no_comma (drop at s)
+  run_passes : element_ends (drop a s) ≡ true → all_of (part_of f) (element_from s at) ≡ true
+  run_passes h = ap (λ (n : ℕ). all_of (part_of f) (take n (drop at s))) (run_is h) ∙ all_of_run (part_of f) no_comma (drop at s)
 
 no_domain_name : (x : List ℕ) → all_of name_byte x ≡ false → is_domain_name x ≡ false
 unfolding is_domain_name is_name
@@ -336,10 +320,10 @@ no_all x h = go (is "all" x) refl
     go true e = absurd (false≢true (sym h ∙ all_bytes x e))
     go false e = refl
 
-name_wider : (b : ℕ) → name_byte b ≡ true → part_byte NameByte b ≡ true
+name_wider : (b : ℕ) → name_byte b ≡ true → part_of name_byte b ≡ true
 name_wider b h = both_true (name_byte b) (not (eqb b bar)) h (name_no_bar b h)
 
-name_no_comma : part_byte NameByte comma ≡ false
+name_no_comma : part_of name_byte comma ≡ false
 unfolding name_byte is_letter is_digit any_of
 name_no_comma = refl
 
@@ -350,50 +334,50 @@ plain_comma : plain comma ≡ false
 unfolding identifier_byte any_of
 plain_comma = refl
 
-module _ (s : List ℕ) (at a : ℕ) (fa : a ≡ at + run (part_byte NameByte) (drop at s)) (ends : Bool) (g : ends ≡ element_ends (drop a s)) where
-  pub name_no_end : not ends ≡ true → Wrong ≡ read_at DomainName s at
+module _ (s : List ℕ) (at a : ℕ) (fa : a ≡ at + run (part_of name_byte) (drop at s)) (ends : Bool) (g : ends ≡ element_ends (drop a s)) where
+  pub name_no_end : not ends ≡ true → None ≡ read_at DomainName s at
   unfolding read_at is_scalar
-  name_no_end u = rw (no_domain_name (element_from s at) (no_name_bytes NameByte name_no_comma name_wider s at a fa (tested_false _ ends g u)))
+  name_no_end u = rw (no_domain_name (element_from s at) (no_name_bytes name_byte name_no_comma name_wider s at a fa (tested_false _ ends g u)))
 
-  pub name_read : (size all : Bool) (r : Read) → not ends ≡ false → size ≡ within 1 64 (length (take (a - at) (drop at s))) → all ≡ is "all" (take (a - at) (drop at s))
+  pub name_read : (size all : Bool) (r : Option ℕ) → not ends ≡ false → size ≡ within 1 64 (length (take (a - at) (drop at s))) → all ≡ is "all" (take (a - at) (drop at s))
       → r ≡ read_if (size && not all) a → r ≡ read_at DomainName s at
   unfolding read_at is_scalar is_domain_name is_name
   name_read size all r u k l h =
       let w : element_ends (drop a s) ≡ true = tested_true _ ends g u in
-      let e : element_from s at ≡ take (a - at) (drop at s) = element_there NameByte name_no_comma name_wider s at a fa w in
-      let f : end_from s at ≡ a = ends_there NameByte name_no_comma name_wider s at a fa w in
+      let e : element_from s at ≡ take (a - at) (drop at s) = element_there name_byte name_no_comma name_wider s at a fa w in
+      let f : end_from s at ≡ a = ends_there name_byte name_no_comma name_wider s at a fa w in
       let y : all_of name_byte (element_from s at) ≡ true =
-      all_of_weaker (part_byte NameByte) name_byte (λ b q. both_left (name_byte b) (not (eqb b bar)) q) (element_from s at) (run_passes NameByte name_no_comma name_wider s at a fa w) in
+      all_of_weaker (part_of name_byte) name_byte (λ b q. both_left (name_byte b) (not (eqb b bar)) q) (element_from s at) (run_passes name_byte name_no_comma name_wider s at a fa w) in
       rw (y, f, e, h, k, l, and-true)
 
 -- ---- elements of patterns
 
 module _ (s : List ℕ) (at a : ℕ) (fa : a ≡ at + run plain (drop at s)) (ends : Bool) (g : ends ≡ element_ends (drop a s)) where
-  pub pattern_subject : (r : Read) → not ends ≡ true → r ≡ read_at SubjectIdentifier s at → r ≡ read_at PatternElement s at
+  pub pattern_subject : (r : Option ℕ) → not ends ≡ true → r ≡ read_at SubjectIdentifier s at → r ≡ read_at PatternElement s at
   unfolding read_at is_scalar
   pattern_subject r u h =
-      let n : all_of name_byte (element_from s at) ≡ false = no_name_bytes IdentifierByte plain_comma plain_wider s at a fa (tested_false _ ends g u) in
+      let n : all_of name_byte (element_from s at) ≡ false = no_name_bytes identifier_byte plain_comma plain_wider s at a fa (tested_false _ ends g u) in
       rw (no_all (element_from s at) n, no_domain_name (element_from s at) n, or-false) h
 
   module _ (u : not ends ≡ false) (all : Bool) (l : all ≡ is "all" (take (a - at) (drop at s))) where
     there : element_from s at ≡ take (a - at) (drop at s)
-    there = element_there IdentifierByte plain_comma plain_wider s at a fa (tested_true _ ends g u)
+    there = element_there identifier_byte plain_comma plain_wider s at a fa (tested_true _ ends g u)
 
-    pub pattern_all : all ≡ true → Ends a ≡ read_at PatternElement s at
+    pub pattern_all : all ≡ true → Some a ≡ read_at PatternElement s at
     unfolding read_at is_scalar
-    pattern_all t = rw (there, ← l, t, ends_there IdentifierByte plain_comma plain_wider s at a fa (tested_true _ ends g u))
+    pattern_all t = rw (there, ← l, t, ends_there identifier_byte plain_comma plain_wider s at a fa (tested_true _ ends g u))
 
-    pub pattern_name : (name : Bool) (r : Read) → all ≡ false → name ≡ is_domain_name (take (a - at) (drop at s)) → r ≡ read_if name a → r ≡ read_at PatternElement s at
+    pub pattern_name : (name : Bool) (r : Option ℕ) → all ≡ false → name ≡ is_domain_name (take (a - at) (drop at s)) → r ≡ read_if name a → r ≡ read_at PatternElement s at
     unfolding read_at is_scalar
     pattern_name name r t k h =
         let i : is_identifier Subject (element_from s at) ≡ false = identifier_not Subject s at (ended_at s at a fa (parts_fit Subject) (tested_true _ ends g u) ∙ subject_one _) in
-        rw (i, there, ← l, t, ← k, h, ends_there IdentifierByte plain_comma plain_wider s at a fa (tested_true _ ends g u))
+        rw (i, there, ← l, t, ← k, h, ends_there identifier_byte plain_comma plain_wider s at a fa (tested_true _ ends g u))
 
 -- ---- any other scalar
 
-pub other_read : (k : Scalar) (s : List ℕ) (at a : ℕ) (right : Bool) (r : Read) → a ≡ at + before comma (drop at s) → right ≡ is_scalar k (take (a - at) (drop at s)) → r ≡ read_if right a → r ≡ read_at k s at
+pub other_read : (k : Scalar) (s : List ℕ) (at a : ℕ) (right : Bool) (r : Option ℕ) → a ≡ at + before comma (drop at s) → right ≡ is_scalar k (take (a - at) (drop at s)) → r ≡ read_if right a → r ≡ read_at k s at
 unfolding read_at
 other_read k s at a right r f e h = let q : a - at ≡ before comma (drop at s) = omega arith in rw (h, e, q, f)
 
-pub read_known : (scalar known : Scalar) (s : List ℕ) (at : ℕ) (r : Read) → scalar ≡ known → r ≡ read_at known s at → r ≡ read_at scalar s at
+pub read_known : (scalar known : Scalar) (s : List ℕ) (at : ℕ) (r : Option ℕ) → scalar ≡ known → r ≡ read_at known s at → r ≡ read_at scalar s at
 read_known scalar known s at r e f = rw e f

@@ -19,9 +19,9 @@ use Rattle.paper.specs.Lists.{spaced, unspaced, elements_in}
 use Rattle.laws.specs.Pieces.{before}
 use Rattle.laws.proofs.Tests.{both_left, both_right}
 use Rattle.laws.proofs.Pieces.{piece_within, piece_length, piece_short, piece_behind, cut_more, cut_last, cut_some}
-use Rattle.text_lists.specs.Walk.{first_element, found_to, element_at, elements_left, SpacedFrom}
+use Rattle.text_lists.specs.Walk.{first_element, element_to, element_at, elements_left, SpacedFrom}
+use Rattle.std.specs.Prelude.{Option, Some, None}
 use Rattle.text_lists.specs.declared.Element.{Element}
-use Rattle.text_lists.specs.declared.Element.TheVariants.{Found, NoneLeft}
 
 -- ---- in a stretch that is spaced as it should be, an element is what stands between a comma's space and the next comma
 
@@ -150,7 +150,7 @@ module _ (s : List ℕ) where
 -- ---- a step of the walk, as the code takes it
 
 module _ (s : List ℕ) (at : ℕ) where
-  pub none_found : length s < at → NoneLeft ≡ element_at s at
+  pub none_found : length s < at → None ≡ element_at s at
   unfolding element_at
   none_found h = rw (lt-ltb (length s) at h)
 
@@ -158,9 +158,18 @@ module _ (s : List ℕ) (at : ℕ) where
     pub next_fits : length s * 1 < 2 ^ 63 → Fits w64 (e + 2)
     next_fits l = omega (arith, piece_within comma s at e f w)
 
-    pub element_found : Found e (e + 2) ≡ element_at s at
+    pub element_found : Some (element_to e) ≡ element_at s at
     unfolding element_at
     element_found = rw (le-ltb (length s) at w, f)
+
+-- the two places of an element that is found
+abbrev end_of : Option Element → ℕ
+end_of None = 0
+end_of (Some e) = e.end
+
+abbrev next_of : Option Element → ℕ
+next_of None = 0
+next_of (Some e) = e.next
 
 -- what an element that is found says of itself
 pub record FoundAt (s : List ℕ) (at end next : ℕ) : Type 0 where
@@ -168,45 +177,45 @@ pub record FoundAt (s : List ℕ) (at end next : ℕ) : Type 0 where
   pub ends : end ≡ at + before comma (drop at s)
   pub next_is : next ≡ end + 2
 
-module _ (s : List ℕ) (at : ℕ) (r : Element) (q : r ≡ element_at s at) where
-  pub left_none : r ≡ NoneLeft → elements_left s at ≡ []
+module _ (s : List ℕ) (at : ℕ) (r : Option Element) (q : r ≡ element_at s at) where
+  pub left_none : r ≡ None → elements_left s at ≡ []
   unfolding element_at
   left_none n = go (ltb (length s) at) refl q
     where
-      go : (t : Bool) → ltb (length s) at ≡ t → r ≡ cond t NoneLeft (found_to (at + before comma (drop at s))) → elements_left s at ≡ []
+      go : (t : Bool) → ltb (length s) at ≡ t → r ≡ cond t None (Some (element_to (at + before comma (drop at s)))) → elements_left s at ≡ []
       go true p h = left_past s at (ltb-true (length s) at p)
       go false p h = absurd (let z : ◌≡◌ {A = ℕ} 0 1 = cc in omega arith)
 
-  module _ (end next : ℕ) (n : r ≡ Found end next) where
-    pub found_at : FoundAt s at end next
+  module _ (f : Element) (n : r ≡ Some f) where
+    pub found_at : FoundAt s at f.end f.next
     unfolding element_at
     found_at = go (ltb (length s) at) refl q
       where
-        go : (t : Bool) → ltb (length s) at ≡ t → r ≡ cond t NoneLeft (found_to (at + before comma (drop at s))) → FoundAt s at end next
+        go : (t : Bool) → ltb (length s) at ≡ t → r ≡ cond t None (Some (element_to (at + before comma (drop at s)))) → FoundAt s at f.end f.next
         go true p h = absurd (let z : ◌≡◌ {A = ℕ} 0 1 = cc in omega arith)
-        go false p h = let e : end ≡ at + before comma (drop at s) = cc in
-            let m : next ≡ at + before comma (drop at s) + 2 = cc in
+        go false p h = let e : f.end ≡ at + before comma (drop at s) = ap end_of (sym n ∙ h) in
+            let m : f.next ≡ at + before comma (drop at s) + 2 = ap next_of (sym n ∙ h) in
             record { within = ltb-false (length s) at p; ends = e; next_is = rw e m }
 
-    pub found_from : at ≤ end
+    pub found_from : at ≤ f.end
     found_from = omega (arith, found_at.ends)
 
-    pub found_to_lem : end ≤ length s
-    found_to_lem = piece_within comma s at end found_at.ends found_at.within
+    pub found_to_lem : f.end ≤ length s
+    found_to_lem = piece_within comma s at f.end found_at.ends found_at.within
 
-    pub found_less : length s + 3 - next < length s + 3 - at
+    pub found_less : length s + 3 - f.next < length s + 3 - at
     found_less = omega (arith, found_at.within, found_from, found_at.next_is)
 
     module _ (k : SpacedFrom s at) where
-      pub left_found : elements_left s at ≡ take (end - at) (drop at s) ∷ elements_left s next
-      left_found = rw (left_within s at found_at.within, found_at.next_is) (dite (dec_lt end (length s))
-          (λ (h : end < length s). rw (left_within s (end + 2) (next_within s at end found_at.ends found_at.within k h))
-          (elements_more s at end found_at.ends found_at.within k h))
-          (λ (h : ¬ (end < length s)). rw (left_past s (end + 2) (omega arith))
-          (elements_last s at end found_at.ends found_at.within k (omega arith))))
+      pub left_found : elements_left s at ≡ take (f.end - at) (drop at s) ∷ elements_left s f.next
+      left_found = rw (left_within s at found_at.within, found_at.next_is) (dite (dec_lt f.end (length s))
+          (λ (h : f.end < length s). rw (left_within s (f.end + 2) (next_within s at f.end found_at.ends found_at.within k h))
+          (elements_more s at f.end found_at.ends found_at.within k h))
+          (λ (h : ¬ (f.end < length s)). rw (left_past s (f.end + 2) (omega arith))
+          (elements_last s at f.end found_at.ends found_at.within k (omega arith))))
 
-      pub spaced_found : SpacedFrom s next
+      pub spaced_found : SpacedFrom s f.next
       unfolding spaced
-      spaced_found = rw found_at.next_is (dite (dec_lt end (length s))
-          (λ (h : end < length s). spaced_next s at end found_at.ends found_at.within k h)
-          (λ (h : ¬ (end < length s)). let g : length s ≤ end + 2 = omega arith in rw (drop_of_length-le s g)))
+      spaced_found = rw found_at.next_is (dite (dec_lt f.end (length s))
+          (λ (h : f.end < length s). spaced_next s at f.end found_at.ends found_at.within k h)
+          (λ (h : ¬ (f.end < length s)). let g : length s ≤ f.end + 2 = omega arith in rw (drop_of_length-le s g)))

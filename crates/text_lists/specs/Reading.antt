@@ -1,11 +1,10 @@
 -- An element read part by part: where it ends, if it is the scalar asked for.
-use Rattle.std.specs.Prelude.{ℕ, ◌+◌, List, [], ◌∷◌, Bool, true, false, cond, eqb, take, drop}
+use Rattle.std.specs.Prelude.{ℕ, ◌+◌, List, [], ◌∷◌, Bool, true, false, Option, eqb, take, drop}
+use Rattle.std.specs.Bool.{then_some}
 use Rattle.paper.specs.Text.{comma, bar}
 use Rattle.paper.specs.declared.Scalar.{Scalar}
 use Rattle.paper.specs.Scalars.{is_scalar}
 use Rattle.laws.specs.Pieces.{before}
-use Rattle.text_lists.specs.declared.Read.{Read}
-use Rattle.text_lists.specs.declared.Read.TheVariants.{Ends, Wrong}
 
 -- the element that begins at a place, and where it ends
 abbrev pub element_from : List ℕ → ℕ → List ℕ
@@ -25,9 +24,9 @@ bar_stands [] = false
 bar_stands (b ∷ bs) = eqb b bar
 
 -- an end, where what leads to it is right
-abbrev pub read_if : Bool → ℕ → Read
-read_if right end = cond right (Ends end) Wrong
+abbrev pub read_if : Bool → ℕ → Option ℕ
+read_if right end = then_some right end
 
 -- the element that begins at a place, read as a scalar
-unfoldable pub read_at : Scalar → List ℕ → ℕ → Read
+unfoldable pub read_at : Scalar → List ℕ → ℕ → Option ℕ
 read_at scalar s at = read_if (is_scalar scalar (element_from s at)) (end_from s at)

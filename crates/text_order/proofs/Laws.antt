@@ -18,8 +18,8 @@ use Rattle.paper.specs.Rules.{repeats}
 use Rattle.laws.proofs.Tests.{same_equal, either_of, neither, neither_left, neither_right, le_or_lt}
 use Rattle.laws.proofs.Pieces.{piece_length}
 use Rattle.text_lists.specs.Walk.{first_element, element_at, elements_left, SpacedFrom}
+use Rattle.std.specs.Prelude.{Option, Some, None}
 use Rattle.text_lists.specs.declared.Element.{Element}
-use Rattle.text_lists.specs.declared.Element.TheVariants.{Found, NoneLeft}
 use Rattle.text_lists.proofs.Walk.{left_first, left_none, left_found, found_at, found_less}
 use Rattle.text_order.specs.Order.{Under, here, later, Ascends, OneOf}
 use Rattle.text_order.proofs.Names.{repeats_first, repeats_none}
@@ -95,41 +95,41 @@ module _ (s places : List ℕ) (m at : ℕ) where
   pub apart_first : at ≡ first_element s → LeftApart s places m at → repeats [] (elements_in s) ≡ false
   apart_first h known = rw (← left_first s, ← h) known.once
 
-  module _ (r : Element) (q : r ≡ element_at s at) where
-    pub none_apart : r ≡ NoneLeft → LeftApart s places m at
+  module _ (r : Option Element) (q : r ≡ element_at s at) where
+    pub none_apart : r ≡ None → LeftApart s places m at
     unfolding among any_of
     none_apart n = record { once = rw (left_none s at r q n) repeats_none; placed = λ y h. absurd (false≢true (rw (left_none s at r q n) at h)) }
 
-    module _ (end next : ℕ) (n : r ≡ Found end next) (w : SpacedFrom s at) (one : OneOf places m at) (known : LeftApart s places m next) (ascends : Ascends s places m) where
-      after : at < next
-      after = omega (arith, found_less s at r q end next n)
+    module _ (f : Element) (n : r ≡ Some f) (w : SpacedFrom s at) (one : OneOf places m at) (known : LeftApart s places m f.next) (ascends : Ascends s places m) where
+      after : at < f.next
+      after = omega (arith, found_less s at r q f n)
 
-      left_is : elements_left s at ≡ name_at s at ∷ elements_left s next
-      left_is = rw (← piece_length comma s at end (found_at s at r q end next n).ends) (left_found s at r q end next n w)
+      left_is : elements_left s at ≡ name_at s at ∷ elements_left s f.next
+      left_is = rw (← piece_length comma s at f.end (found_at s at r q f n).ends) (left_found s at r q f n w)
 
-      not_again : among (name_at s at) (elements_left s next) ≡ false
-      not_again = go (among (name_at s at) (elements_left s next)) refl
+      not_again : among (name_at s at) (elements_left s f.next) ≡ false
+      not_again = go (among (name_at s at) (elements_left s f.next)) refl
         where
-          go : (t : Bool) → among (name_at s at) (elements_left s next) ≡ t → t ≡ false
+          go : (t : Bool) → among (name_at s at) (elements_left s f.next) ≡ t → t ≡ false
           go true e = let p = known.placed (name_at s at) e in
               absurd (names_apart s places m ascends at p.0 one p.2 (omega (arith, after)) p.3)
           go false e = refl
 
-      placed_too : (y : List ℕ) → among y (name_at s at ∷ elements_left s next) ≡ true → (b : ℕ) × (at ≤ b) × OneOf places m b × (y ≡ name_at s b)
+      placed_too : (y : List ℕ) → among y (name_at s at ∷ elements_left s f.next) ≡ true → (b : ℕ) × (at ≤ b) × OneOf places m b × (y ≡ name_at s b)
       unfolding among any_of
       placed_too y h =
           ⊎_elim
           (λ (e : same y (name_at s at) ≡ true). (at, omega arith, one, same_equal y (name_at s at) e))
-          (λ (e : among y (elements_left s next) ≡ true). let p = known.placed y e in (p.0, omega (arith, after), p.2, p.3))
-          (either_of (same y (name_at s at)) (among y (elements_left s next)) h)
+          (λ (e : among y (elements_left s f.next) ≡ true). let p = known.placed y e in (p.0, omega (arith, after), p.2, p.3))
+          (either_of (same y (name_at s at)) (among y (elements_left s f.next)) h)
 
       one_more : LeftApart s places m at
       one_more = record {
-        once = rw (left_is, repeats_first (name_at s at) (elements_left s next)) (neither (among (name_at s at) (elements_left s next)) (repeats [] (elements_left s next)) not_again known.once);
+        once = rw (left_is, repeats_first (name_at s at) (elements_left s f.next)) (neither (among (name_at s at) (elements_left s f.next)) (repeats [] (elements_left s f.next)) not_again known.once);
         placed = λ y h. placed_too y (rw left_is at h);
       }
 
-    pub apart_again : (end next : ℕ) → r ≡ Found end next → SpacedFrom s at → Ascends s places m
+    pub apart_again : (f : Element) → r ≡ Some f → SpacedFrom s at → Ascends s places m
         → (LeftApart s places m at → repeats [] (elements_in s) ≡ false) → (t : Bool) → (t ≡ true → OneOf places m at) → not t ≡ false
-        → LeftApart s places m next → repeats [] (elements_in s) ≡ false
-    apart_again end next n w ascends inv t one h known = inv (one_more end next n w (one (not-false t h)) known ascends)
+        → LeftApart s places m f.next → repeats [] (elements_in s) ≡ false
+    apart_again f n w ascends inv t one h known = inv (one_more f n w (one (not-false t h)) known ascends)

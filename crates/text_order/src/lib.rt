@@ -8,7 +8,6 @@ ghost use Rattle.paper.specs.Rules.{repeats};
 ghost use Rattle.text_order.specs.Order.{Under, Ascends, OneOf};
 
 use text_bytes::byte;
-use text_lists::Element;
 
 // The byte at a place. Behind the text stands a comma, which ends the last name as it ends the others.
 fn byte_at(s: &[u8], place: usize) -> u8
@@ -86,15 +85,11 @@ pub fn all_ranked(s: &[u8], places: &[u32], ranks: &[u32], last: usize) -> bool
     ensures { result ≡ true → repeats [] (elements_in s.now) ≡ false }
 {
     let mut at = text_lists::first_element(s);
-    loop {
-        match text_lists::element_at(s, at) {
-            Element::NoneLeft => return true,
-            Element::Found { end, next } => {
-                if !is_ranked(places, ranks, last, at) {
-                    return false;
-                }
-                at = next;
-            }
+    while let Some(element) = text_lists::element_at(s, at) {
+        if !is_ranked(places, ranks, last, at) {
+            return false;
         }
+        at = element.next;
     }
+    true
 }

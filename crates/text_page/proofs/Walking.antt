@@ -23,14 +23,14 @@ use Rattle.text_keys.specs.Rows.{seen, told}
 use Rattle.text_keys.specs.declared.rows.Row.{Row}
 use Rattle.text_lines.specs.Splits.{Splits}
 use Rattle.text_lines.specs.declared.LineAt.{LineAt}
-use Rattle.text_page.specs.Steps.{state_of, step_of, StartsIn}
-use Rattle.text_page.specs.Walk.{start_of, next_after, next_in, last_next, page_left, page_next, field_bytes, places, Within}
+use Rattle.std.specs.Prelude.{Some, None, Ok, Err}
+use Rattle.paper.specs.declared.Fault.{Fault}
+use Rattle.text_page.specs.Steps.{Step, state_of, step_of, StartsIn}
+use Rattle.text_page.specs.Walk.{Next, start_of, next_after, next_in, last_next, page_left, page_next, field_bytes, places, Within}
 use Rattle.text_page.proofs.Steps.{last_told}
+use Rattle.text_page.specs.declared.Field.{Field}
 use Rattle.text_page.specs.declared.step.State.{State}
-use Rattle.text_page.specs.declared.step.Step as step
-use Rattle.text_page.specs.declared.step.Step.TheVariants as steps
-use Rattle.text_page.specs.declared.Next as next
-use Rattle.text_page.specs.declared.Next.TheVariants.{Field, End, Fault}
+use Rattle.text_page.specs.declared.step.Keyed.{Keyed}
 
 first_start : (end at b next : ℕ) (ls : List Line) → start_of end (with_byte at b next ls) ≡ at
 unfolding with_byte on_line
@@ -88,32 +88,35 @@ module _ (t : List ℕ) (at : ℕ) (l : LineAt) (sp : Splits t at l) where
   pub line_fits : (n : ℕ) → n ≤ at + 1 → length t * 1 < 2 ^ 63 → Fits w64 (n + 1)
   line_fits n k f = omega (arith, sp.further, sp.stays)
 
-  module _ (st : State) (n : ℕ) (s : step.Step)
+  module _ (st : State) (n : ℕ) (s : Step)
       (e : (x : ℕ) → line_step (state_of st) n (record { start = x; text = take (l.end - at) (drop at t); ended = l.ended }) ≡ step_of st n x (take (l.end - at) (drop at t)) s) where
-    module _ (N : next.Next) (inv : next_in (length t) (state_of st) n (lines_from at (drop at t)) ≡ N) where
+    -- the field that the walk tells of
+    abbrev pub found : Keyed → Field
+    found k = record { line = n; place = k.place; start = at + k.start; bare = k.bare; end = l.end; next = l.next }
+
+    module _ (N : Next) (inv : next_in (length t) (state_of st) n (lines_from at (drop at t)) ≡ N) where
       -- the answer at a step of this line
-      answer : paper.Step → next.Next
+      answer : paper.Step → Next
       answer x = next_after (length t) (lines_from l.next (drop l.next t)) x (λ st'. next_in (length t) st' (n + 1) (lines_from l.next (drop l.next t)))
 
       next_is : N ≡ answer (step_of st n at (take (l.end - at) (drop at t)) s)
       unfolding next_in answer
       next_is = sym inv ∙ ap (next_in (length t) (state_of st) n) sp.splits ∙ ap answer (e at)
 
-      pub next_skip : s ≡ steps.Skipped → next_in (length t) (state_of st) (n + 1) (lines_from l.next (drop l.next t)) ≡ N
+      pub next_skip : s ≡ Ok None → next_in (length t) (state_of st) (n + 1) (lines_from l.next (drop l.next t)) ≡ N
       unfolding answer
       next_skip q = sym (next_is ∙ rw q refl)
 
-      pub next_stop : (k m : ℕ) → s ≡ steps.Stop k m → Fault k m ≡ N
+      pub next_stop : (k : Fault) → s ≡ Err k → Err k ≡ N
       unfolding answer
-      next_stop k m q = sym (next_is ∙ rw q refl)
+      next_stop k q = sym (next_is ∙ rw q refl)
 
-      pub next_field : (p a : ℕ) (b : Bool) → StartsIn (take (l.end - at) (drop at t)) s → s ≡ steps.Field p b a
-          → Field n p (at + a) b l.end l.next ≡ N
+      pub next_field : (k : Keyed) → StartsIn (take (l.end - at) (drop at t)) s → s ≡ Ok (Some k) → Ok (Some (found k)) ≡ N
       unfolding answer
-      next_field p a b i q =
-          let k : a ≤ length (take (l.end - at) (drop at t)) = rw q at i in
-          let m : at + a + length (drop a (take (l.end - at) (drop at t))) ≡ l.end =
-          omega (arith, length-drop a (take (l.end - at) (drop at t)), length-take (l.end - at) (drop at t), length-drop at t, sp.after, sp.inside) in
+      next_field k i q =
+          let h : k.start ≤ length (take (l.end - at) (drop at t)) = rw q at i in
+          let m : at + k.start + length (drop k.start (take (l.end - at) (drop at t))) ≡ l.end =
+          omega (arith, length-drop k.start (take (l.end - at) (drop at t)), length-take (l.end - at) (drop at t), length-drop at t, sp.after, sp.inside) in
           sym (next_is ∙ rw (q, m, starts_at t l.next sp.stays) refl)
 
     module _ (P : Outcome) (inv : page_from (state_of st) n (lines_from at (drop at t)) ≡ P) where
@@ -121,78 +124,76 @@ module _ (t : List ℕ) (at : ℕ) (l : LineAt) (sp : Splits t at l) where
       unfolding page_from
       page_is = sym inv ∙ ap (page_from (state_of st) n) sp.splits ∙ ap (λ (x : paper.Step). after x (λ st'. page_from st' (n + 1) (lines_from l.next (drop l.next t)))) (e at)
 
-      pub page_skip : s ≡ steps.Skipped → page_from (state_of st) (n + 1) (lines_from l.next (drop l.next t)) ≡ P
+      pub page_skip : s ≡ Ok None → page_from (state_of st) (n + 1) (lines_from l.next (drop l.next t)) ≡ P
       page_skip q = sym (page_is ∙ rw q (no_fields _))
 
-      pub page_stop : (k m : ℕ) → s ≡ steps.Stop k m → P ≡ page_next t (Fault k m)
-      page_stop k m q = page_is ∙ rw q refl
+      pub page_stop : (k : Fault) → s ≡ Err k → P ≡ page_next t (Err k)
+      page_stop k q = page_is ∙ rw q refl
 
-      pub page_field : (p a : ℕ) (b : Bool) → s ≡ steps.Field p b a → P ≡ page_next t (Field n p (at + a) b l.end l.next)
+      pub page_field : (k : Keyed) → s ≡ Ok (Some k) → P ≡ page_next t (Ok (Some (found k)))
       unfolding page_left
-      page_field p a b q =
-          let k : l.end - at - a ≡ l.end - (at + a) = omega arith in
-          let v : drop a (take (l.end - at) (drop at t)) ≡ take (l.end - (at + a)) (drop (at + a) t) = drop_take a (l.end - at) (drop at t) ∙ rw (k, drop-drop a at t) refl in
+      page_field k q =
+          let h : l.end - at - k.start ≡ l.end - (at + k.start) = omega arith in
+          let v : drop k.start (take (l.end - at) (drop at t)) ≡ take (l.end - (at + k.start)) (drop (at + k.start) t) =
+          drop_take k.start (l.end - at) (drop at t) ∙ rw (h, drop-drop k.start at t) refl in
           page_is ∙ rw (q, v) refl
 
-      -- the line holds this field
-      abbrev FieldHere : ℕ → ℕ → Bool → Type 0
-      FieldHere p a b =
-          FieldOf
-          (state_of st)
-          n
-          (record { start = at; text = take (l.end - at) (drop at t); ended = l.ended })
-          (record { place = p; bare = b; line = n })
-          (record { line = n; place = p; start = at + a; value = drop a (take (l.end - at) (drop at t)) })
+    -- the line holds this field
+    abbrev FieldHere : Keyed → Type 0
+    FieldHere k =
+        FieldOf
+        (state_of st)
+        n
+        (record { start = at; text = take (l.end - at) (drop at t); ended = l.ended })
+        (record { place = k.place; bare = k.bare; line = n })
+        (record { line = n; place = k.place; start = at + k.start; value = drop k.start (take (l.end - at) (drop at t)) })
 
-      field_here : (p a : ℕ) (b : Bool) → s ≡ steps.Field p b a → FieldHere p a b
-      field_here p a b q = field_on_lem (state_of st) _ n (record { start = at; text = take (l.end - at) (drop at t); ended = l.ended }) _ (e at ∙ rw q refl)
+    field_here : (k : Keyed) → s ≡ Ok (Some k) → FieldHere k
+    field_here k q = field_on_lem (state_of st) _ n (record { start = at; text = take (l.end - at) (drop at t); ended = l.ended }) _ (e at ∙ rw q refl)
 
-      -- the key of a field and its LF take at least eight bytes
-      pub walk_further : (from p a : ℕ) (b : Bool) → StartsIn (take (l.end - at) (drop at t)) s → s ≡ steps.Field p b a → from ≤ at → from + field_bytes ≤ l.next
-      walk_further from p a b i q k =
-          let d : FieldHere p a b = field_here p a b q in
-          let w : a ≤ length (take (l.end - at) (drop at t)) = rw q at i in
-          let long : field_bytes ≤ a + 1 = omega (arith, key_long (state_of st) (take (l.end - at) (drop at t)) p d.placed, d.keyed, d.starts) in
-          omega (arith, long, length-take (l.end - at) (drop at t), w, sp.after, sp.fed d.ended)
+    -- the key of a field and its LF take at least eight bytes, its place is a row of the listing, and its value takes no more bytes than its line
+    pub found_within : (from : ℕ) (k : Keyed) → StartsIn (take (l.end - at) (drop at t)) s → s ≡ Ok (Some k) → from ≤ at → n ≤ at + 1 → at < length t
+        → Within t from (Ok (Some (found k)))
+    found_within from k i q h lined more =
+        let d : FieldHere k = field_here k q in
+        let w : k.start ≤ length (take (l.end - at) (drop at t)) = rw q at i in
+        let u : k.start ≤ l.end - at = omega (arith, length-take (l.end - at) (drop at t)) in
+        let key : 7 ≤ length (key_at k.place) = key_long (state_of st) (take (l.end - at) (drop at t)) k.place d.placed in
+        let long : field_bytes ≤ k.start + 1 = omega (arith, key, d.keyed, d.starts) in (
+          omega (arith, u, sp.after),
+          sp.inside,
+          omega (arith, long, length-take (l.end - at) (drop at t), w, sp.after, sp.fed d.ended),
+          sp.stays,
+          omega (arith, sp.further),
+          omega (arith, sp.after, sp.fed d.ended),
+          omega arith,
+          key_listed k.place (omega (arith, key)),
+        )
 
-      -- its place is a row of the listing
-      pub walk_listed : (p a : ℕ) (b : Bool) → s ≡ steps.Field p b a → p < places
-      walk_listed p a b q = key_listed p (omega (arith, key_long (state_of st) (take (l.end - at) (drop at t)) p (field_here p a b q).placed))
+  module _ (k : Keyed) (s : Step) (i : StartsIn (take (l.end - at) (drop at t)) s) (q : s ≡ Ok (Some k)) where
+    start_in_lem : k.start ≤ l.end - at
+    start_in_lem = let h : k.start ≤ length (take (l.end - at) (drop at t)) = rw q at i in omega (arith, length-take (l.end - at) (drop at t))
 
-      -- its value takes no more bytes than its line
-      pub walk_value : (from p a : ℕ) (b : Bool) → s ≡ steps.Field p b a → from ≤ at → from + (l.end - (at + a)) ≤ l.next
-      walk_value from p a b q k = omega (arith, sp.after, sp.fed (field_here p a b q).ended)
-
-  module _ (p a : ℕ) (b : Bool) (s : step.Step) (i : StartsIn (take (l.end - at) (drop at t)) s) (q : s ≡ steps.Field p b a) where
-    start_in_lem : a ≤ l.end - at
-    start_in_lem = let k : a ≤ length (take (l.end - at) (drop at t)) = rw q at i in omega (arith, length-take (l.end - at) (drop at t))
-
-    pub start_fits : length t < 2 ^ 64 → Fits w64 (at + a)
+    pub start_fits : length t < 2 ^ 64 → Fits w64 (at + k.start)
     start_fits f = omega (arith, start_in_lem, sp.after, sp.inside)
-
-    pub start_end : at + a ≤ l.end
-    start_end = omega (arith, start_in_lem, sp.after)
-
-pub line_within : (t : List ℕ) (at n : ℕ) → n ≤ at + 1 → at < length t → n ≤ length t
-line_within t at n h k = omega arith
 
 -- ---- the end of the text
 
-module _ (st : State) (n : ℕ) (b : Bool) (e : b ≡ is_left_empty (state_of st) false) where
-  pub end_empty : b ≡ true → Fault 9 st.line ≡ last_next (at_end (state_of st) n)
+module _ (st : State) (n : ℕ) where
+  pub end_empty : is_left_empty (state_of st) false ≡ true → Err (record { number = 9; line = st.line }) ≡ last_next (at_end (state_of st) n)
   unfolding at_end
-  end_empty u = rw (← e, u)
+  end_empty u = rw u
 
-  module _ (row : Row) (u : b ≡ false) (f : seen row ≡ told (row_at st.place)) where
-    pub end_right : row.last ≡ true → End ≡ last_next (at_end (state_of st) n)
+  module _ (row : Row) (u : is_left_empty (state_of st) false ≡ false) (f : seen row ≡ told (row_at st.place)) where
+    pub end_right : row.last ≡ true → Ok None ≡ last_next (at_end (state_of st) n)
     unfolding at_end
-    end_right v = rw (← e, u, ← last_told st.place row f, v)
+    end_right v = rw (u, ← last_told st.place row f, v)
 
-    pub end_missing : row.last ≡ false → Fault 4 n ≡ last_next (at_end (state_of st) n)
+    pub end_missing : row.last ≡ false → Err (record { number = 4; line = n }) ≡ last_next (at_end (state_of st) n)
     unfolding at_end
-    end_missing v = rw (← e, u, ← last_told st.place row f, v)
+    end_missing v = rw (u, ← last_told st.place row f, v)
 
-module _ (t : List ℕ) (n : ℕ) (st : State) (r : next.Next) (e : r ≡ last_next (at_end (state_of st) n)) where
+module _ (t : List ℕ) (n : ℕ) (st : State) (r : Next) (e : r ≡ last_next (at_end (state_of st) n)) where
   last_is : at_end (state_of st) n ≡ page_next t (last_next (at_end (state_of st) n))
   unfolding at_end
   last_is = go (is_left_empty (state_of st) false) (row_at st.place).last
@@ -202,7 +203,7 @@ module _ (t : List ℕ) (n : ℕ) (st : State) (r : next.Next) (e : r ≡ last_n
       go false true = refl
       go false false = refl
 
-  pub next_ends : (at : ℕ) (N : next.Next) → next_in (length t) (state_of st) n (lines_from at (drop at t)) ≡ N → length t ≤ at → r ≡ N
+  pub next_ends : (at : ℕ) (N : Next) → next_in (length t) (state_of st) n (lines_from at (drop at t)) ≡ N → length t ≤ at → r ≡ N
   unfolding next_in lines_from
   next_ends at N inv h = e ∙ sym (sym inv ∙ rw (drop_of_length-le t h) refl)
 

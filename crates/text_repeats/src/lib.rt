@@ -10,7 +10,7 @@ ghost use Rattle.paper.specs.Lists.{spaced, elements_in};
 ghost use Rattle.paper.specs.Rules.{repeats};
 ghost use Rattle.text_lists.specs.Walk.{elements_left, SpacedFrom};
 
-use text_lists::Element;
+use std::cmp::Ordering;
 use text_order::{all_ranked, ascending, is_under, word_at};
 
 // Names begin two bytes apart at least, as a comma and a space stand between them: a text has no more than these.
@@ -22,100 +22,27 @@ fn write_places(s: &[u8], places: &mut [u32]) -> usize
     ensures { (length places.new ≡ length places.old) × (result ≤ length places.old) }
 {
     let mut at = text_lists::first_element(s);
-    let mut n: usize = 0;
-    while n < places.len() {
-        match text_lists::element_at(s, at) {
-            Element::NoneLeft => return n,
-            Element::Found { end, next } => {
-                places[n] = at as u32;
-                at = next;
-            }
+    for (n, place) in places.iter_mut().enumerate() {
+        let Some(element) = text_lists::element_at(s, at) else {
+            return n;
+        };
+        *place = at as u32;
+        at = element.next;
+    }
+    places.len()
+}
+
+// Sorts the places by their names. The sort asks only whether one goes before another, so names that are the same may come as greater.
+fn sort(s: &[u8], places: &mut [u32])
+    ensures { length places.new ≡ length places.old }
+{
+    places.sort_unstable_by(|a, b| {
+        if is_under(s, *a as usize, *b as usize) {
+            Ordering::Less
+        } else {
+            Ordering::Greater
         }
-        n += 1;
-    }
-    n
-}
-
-// The next place of two runs that become one: of the first, at i, or of the second, which begins at `mid`. Answers where the first goes on.
-fn merge_one(
-    s: &[u8],
-    from: &[u32],
-    to: &mut [u32],
-    i: usize,
-    mid: usize,
-    k: usize,
-    high: usize,
-) -> usize
-    requires i_le_mid { (i ≤ mid) × (i ≤ k) × (k < high) × (mid ≤ high) }
-    requires high_in_bounds { (high ≤ length from.now) × (high ≤ length to.old) }
-    ensures { (length to.new ≡ length to.old) × (result ≤ mid) × (result ≤ k + 1) }
-{
-    let j = mid + (k - i);
-    if i == mid {
-        to[k] = from[j];
-        return i;
-    }
-    if j < high {
-        if is_under(s, word_at(from, j), word_at(from, i)) {
-            to[k] = from[j];
-            return i;
-        }
-    }
-    to[k] = from[i];
-    i + 1
-}
-
-// Two runs that follow one another, from `low` to `mid` and from there to `high`, become one.
-fn merge(s: &[u8], from: &[u32], to: &mut [u32], low: usize, mid: usize, high: usize)
-    requires low_le_mid { (low ≤ mid) × (mid ≤ high) }
-    requires high_in_bounds { (high ≤ length from.now) × (high ≤ length to.old) }
-    ensures { length to.new ≡ length to.old }
-{
-    let mut i = low;
-    let mut k = low;
-    while k < high {
-        i = merge_one(s, from, to, i, mid, k, high);
-        k += 1;
-    }
-}
-
-// Where a run ends that begins at `low`.
-fn run_end(low: usize, run: usize, n: usize) -> usize
-    requires { (low ≤ n) × (0 < run) }
-    ensures { (low ≤ result) × (result ≤ n) × (n - result ≤ n - low - 1) }
-{
-    if n - low <= run {
-        return n;
-    }
-    low + run
-}
-
-// Each two runs of the first n become one.
-fn merge_runs(s: &[u8], from: &[u32], to: &mut [u32], n: usize, run: usize)
-    requires run_nonzero { 0 < run }
-    requires n_in_bounds { (n ≤ length from.now) × (n ≤ length to.old) }
-    ensures { length to.new ≡ length to.old }
-{
-    let mut low: usize = 0;
-    while low < n {
-        let mid = run_end(low, run, n);
-        let high = run_end(mid, run, n);
-        merge(s, from, to, low, mid, high);
-        low = high;
-    }
-}
-
-// Sorts the first n places by their names.
-fn sort(s: &[u8], places: &mut [u32], spare: &mut [u32], n: usize)
-    requires { (n ≤ length places.old) × (n ≤ length spare.old) }
-    ensures { (length places.new ≡ length places.old) × (length spare.new ≡ length spare.old) }
-{
-    let mut run: usize = 1;
-    while run < n {
-        merge_runs(s, places, spare, n, run);
-        merge_runs(s, spare, places, n, run * 2);
-        run = run * 4;
-    }
+    });
 }
 
 fn put(words: &mut [u32], i: usize, w: u32)
@@ -131,10 +58,8 @@ fn put(words: &mut [u32], i: usize, w: u32)
 fn write_ranks(places: &[u32], n: usize, ranks: &mut [u32])
     requires { n ≤ text_bytes }
 {
-    let mut j: usize = 0;
-    while j < n {
+    for j in 0..n {
         put(ranks, word_at(places, j) / 2, j as u32);
-        j += 1;
     }
 }
 
@@ -144,17 +69,13 @@ fn stands_from(x: &[u8], s: &[u8], from: usize) -> bool
     ensures { result ≡ among x.now (elements_left s.now from) }
 {
     let mut at = from;
-    loop {
-        match text_lists::element_at(s, at) {
-            Element::NoneLeft => return false,
-            Element::Found { end, next } => {
-                if text_bytes::same(x, &s[at..end]) {
-                    return true;
-                }
-                at = next;
-            }
+    while let Some(element) = text_lists::element_at(s, at) {
+        if text_bytes::same(x, &s[at..element.end]) {
+            return true;
         }
+        at = element.next;
     }
+    false
 }
 
 // The name from `at` to `end` begins no earlier than `from`, and stands again from `next` on.
@@ -176,17 +97,13 @@ fn repeats_from(s: &[u8], from: usize) -> bool
     ensures when_false { result ≡ false → from ≡ 0 → repeats [] (elements_in s.now) ≡ false }
 {
     let mut at = text_lists::first_element(s);
-    loop {
-        match text_lists::element_at(s, at) {
-            Element::NoneLeft => return false,
-            Element::Found { end, next } => {
-                if stands_again(s, from, at, end, next) {
-                    return true;
-                }
-                at = next;
-            }
+    while let Some(element) = text_lists::element_at(s, at) {
+        if stands_again(s, from, at, element.end, element.next) {
+            return true;
         }
+        at = element.next;
     }
+    false
 }
 
 // Writes the places, sorted by name, and their ranks; answers how many there are.
@@ -196,7 +113,7 @@ fn sorted_places(s: &[u8], places: &mut [u32], ranks: &mut [u32]) -> usize
     ensures { result ≤ length places.new }
 {
     let n = write_places(s, places);
-    sort(s, places, ranks, n);
+    sort(s, &mut places[..n]);
     write_ranks(places, n, ranks);
     n
 }

@@ -24,17 +24,21 @@ use Rattle.paper.specs.declared.Scalar.TheVariants.{PatternElement}
 use Rattle.laws.specs.Pieces.{before}
 use Rattle.laws.proofs.Tests.{same_equal, eqb_same}
 use Rattle.laws.proofs.Pieces.{piece_within, cut_more, cut_last, cut_some}
-use Rattle.text_scalars.specs.Sorts.{parts_meet, sort_named, meets_sort}
+use Rattle.text_scalars.specs.Sorts.{parts_meet, sort_named, needs_of, meets_sort}
 use Rattle.text_scalars.specs.declared.ObjectSort.{ObjectSort}
+use Rattle.text_scalars.specs.declared.Needs.{Needs}
+use Rattle.std.specs.Prelude.{Option, Some, None}
+use Rattle.std.specs.List.{list_all}
+use Rattle.laws.proofs.Library.{list_all_of}
 use Rattle.text_scalars.specs.Classed.{fits_kind}
 use Rattle.text_scalars.proofs.Classed.{identifier_splits}
 
 -- ---- names, users and groups
 
 module _ (s : List ℕ) where
-  pub name_is : (right every : Bool) → right ≡ within 1 64 (length s) → every ≡ all_of name_byte s → (right && every) ≡ is_name s
+  pub name_is : (right every : Bool) → right ≡ within 1 64 (length s) → every ≡ list_all name_byte s → (right && every) ≡ is_name s
   unfolding is_name
-  name_is right every e f = rw (e, f)
+  name_is right every e f = rw (e, f, list_all_of name_byte s)
 
   module _ (name all root user : Bool) (e : all ≡ same (bytes "all") s) where
     pub domain_name_is : name ≡ is_name s → (name && not all) ≡ is_domain_name s
@@ -60,9 +64,9 @@ module _ (s : List ℕ) where
   unfolding is_line_number
   no_line_number h = rw (lt-leb 1 (length s) h)
 
-  pub line_number_is : (every : Bool) → 1 ≤ length s → every ≡ all_of is_digit s → (leb (length s) 6 && every && not (eqb (get_or s 0 0) (code "0"))) ≡ is_line_number s
+  pub line_number_is : (every : Bool) → 1 ≤ length s → every ≡ list_all is_digit s → (leb (length s) 6 && every && not (eqb (get_or s 0 0) (code "0"))) ≡ is_line_number s
   unfolding is_line_number
-  line_number_is every h e = rw (le-leb 1 (length s) h, e)
+  line_number_is every h e = rw (le-leb 1 (length s) h, e, list_all_of is_digit s)
 
   pub meets_known : (need known : Need) (r : Bool) → need ≡ known → r ≡ meets known s → r ≡ meets need s
   meets_known need known r e f = rw e f
@@ -73,9 +77,6 @@ unfolding parts_meet
 parts_meet_is path line name p l n a b c d ea eb ec ed = rw (ea, eb, ec, ed)
 
 -- ---- the sorts of object
-
-pub meets_known_sort : (sort known : ObjectSort) (p l n : List ℕ) (r : Bool) → sort ≡ known → r ≡ meets_sort known p l n → r ≡ meets_sort sort p l n
-meets_known_sort sort known p l n r e f = rw e f
 
 -- where the word is that of a sort, the rows of the others fail
 sort_table : (word p l n : List ℕ) → meets_sort (sort_named word) p l n ≡ any_of (is_of_sort (word ∷ p ∷ l ∷ n ∷ [])) object_sorts
@@ -99,9 +100,15 @@ sort_table word p l n =
         go true e = named (same_equal (bytes text) word e)
         go false e = other e
 
-pub object_fits_is : (word p l n : List ℕ) (sort : ObjectSort) (r : Bool) → sort ≡ sort_named word → r ≡ meets_sort sort p l n → r ≡ parts_fit Object (word ∷ p ∷ l ∷ n ∷ [])
-unfolding parts_fit
-object_fits_is word p l n sort r f e = rw (e, f) (sort_table word p l n)
+module _ (word p l n : List ℕ) (found : Option ObjectSort) (f : found ≡ sort_named word) where
+  pub sort_fits : (sort : ObjectSort) (needs : Needs) (r : Bool) → found ≡ Some sort → needs ≡ needs_of sort → r ≡ parts_meet needs.path needs.line needs.name p l n
+      → r ≡ parts_fit Object (word ∷ p ∷ l ∷ n ∷ [])
+  unfolding parts_fit
+  sort_fits sort needs r e g h = h ∙ rw (g) (ap (λ (o : Option ObjectSort). meets_sort o p l n) (sym e ∙ f)) ∙ sort_table word p l n
+
+  pub no_sort_fits : found ≡ None → false ≡ parts_fit Object (word ∷ p ∷ l ∷ n ∷ [])
+  unfolding parts_fit
+  no_sort_fits e = ap (λ (o : Option ObjectSort). meets_sort o p l n) (sym e ∙ f) ∙ sort_table word p l n
 
 -- ---- the parts between the `|`
 
@@ -194,6 +201,10 @@ module _ (kind : Kind) (s : List ℕ) where
 
   pub identifier_is : (right every : Bool) → right ≡ fits_kind kind s → every ≡ all_of identifier_byte s → (right && every) ≡ is_identifier kind s
   identifier_is right every e f = rw (e, f) (and_comm (fits_kind kind s) (all_of identifier_byte s) ∙ sym (identifier_splits kind s))
+
+  -- where the library's `all` looked at the bytes
+  pub identifier_told : (right every : Bool) → right ≡ fits_kind kind s → every ≡ list_all identifier_byte s → (right && every) ≡ is_identifier kind s
+  identifier_told right every e f = identifier_is right every e (f ∙ list_all_of identifier_byte s)
 
 -- ---- scalars
 

@@ -2,18 +2,20 @@
 #![tactic(auto)]
 
 ghost use Rattle.std.specs.Prelude.{◌≡◌, [], ◌∷◌, length};
+ghost use Rattle.std.specs.List.{list_all};
 ghost use Rattle.paper.specs.Common.{within, cut};
 ghost use Rattle.paper.specs.Text.{bar};
+ghost use Rattle.paper.specs.Scalars.{is_digit, name_byte, identifier_byte};
 ghost use Rattle.paper.specs.Scalars.{is_name, is_domain_name, is_variable, is_uid, is_gid, is_line_number, meets, parts_fit, is_identifier, is_scalar};
 ghost use Rattle.paper.specs.declared.Kind.TheVariants.{Subject, Object};
 ghost use Rattle.paper.specs.declared.Scalar.TheVariants.{PatternElement};
-ghost use Rattle.text_scalars.specs.Sorts.{sort_named, parts_meet, meets_sort};
+ghost use Rattle.text_scalars.specs.Sorts.{sort_named, parts_meet, needs_of};
 ghost use Rattle.text_scalars.specs.Classed.{fits_kind};
 
 use paper::{Kind, Need, Scalar, limit};
-use text_bytes::{Class, byte};
+use text_bytes::byte;
 
-// The sorts of object, by the first part of an identifier; `Unknown` where it names none.
+// The sorts of object, by the first part of an identifier.
 #[derive(Clone, Copy)]
 enum ObjectSort {
     Global,
@@ -22,7 +24,14 @@ enum ObjectSort {
     StackRegion,
     StackFrame,
     Other,
-    Unknown,
+}
+
+// What a sort says of path, line and name.
+#[derive(Clone, Copy)]
+struct Needs {
+    path: Need,
+    line: Need,
+    name: Need,
 }
 
 pub fn has_name_length(s: &[u8]) -> bool
@@ -31,10 +40,30 @@ pub fn has_name_length(s: &[u8]) -> bool
     (1 <= s.len()) & (s.len() <= limit::NAME_BYTES)
 }
 
+// Every byte may stand in a name.
+fn name_bytes(s: &[u8]) -> bool
+    ensures { result ≡ list_all name_byte s.now }
+{
+    s.iter().all(|b| text_bytes::name_byte(*b))
+}
+
+// Every byte may stand in an identifier.
+fn identifier_bytes(s: &[u8]) -> bool
+    ensures { result ≡ list_all identifier_byte s.now }
+{
+    s.iter().all(|b| text_bytes::identifier_byte(*b))
+}
+
+fn digits(s: &[u8]) -> bool
+    ensures { result ≡ list_all is_digit s.now }
+{
+    s.iter().all(|b| text_bytes::is_digit(*b))
+}
+
 pub fn is_name(s: &[u8]) -> bool
     ensures { result ≡ is_name s.now }
 {
-    has_name_length(s) & text_bytes::all_of(Class::NameByte, s)
+    has_name_length(s) & name_bytes(s)
 }
 
 pub fn is_domain_name(s: &[u8]) -> bool
@@ -70,10 +99,10 @@ pub fn is_gid(s: &[u8]) -> bool
 fn is_line_number(s: &[u8]) -> bool
     ensures { result ≡ is_line_number s.now }
 {
-    if s.len() < 1 {
-        return false;
+    match s {
+        [] => false,
+        [first, ..] => (s.len() <= limit::LINE_DIGITS) & digits(s) & (*first != b'0'),
     }
-    (s.len() <= limit::LINE_DIGITS) & text_bytes::all_of(Class::Digit, s) & (s[0] != b'0')
 }
 
 // A part of an identifier is as a sort needs it.
@@ -88,48 +117,65 @@ fn meets(need: Need, part: &[u8]) -> bool
 }
 
 // Path, line and name are as a sort needs them, and the line, if there is one, is a number.
-fn parts_meet(path: Need, line: Need, name: Need, p: &[u8], l: &[u8], n: &[u8]) -> bool
-    ensures { result ≡ parts_meet path line name p.now l.now n.now }
+fn parts_meet(needs: Needs, p: &[u8], l: &[u8], n: &[u8]) -> bool
+    ensures { result ≡ parts_meet needs.path needs.line needs.name p.now l.now n.now }
 {
-    meets(path, p) & meets(line, l) & ((l.len() == 0) | is_line_number(l)) & meets(name, n)
+    meets(needs.path, p)
+        & meets(needs.line, l)
+        & ((l.len() == 0) | is_line_number(l))
+        & meets(needs.name, n)
 }
 
-fn object_sort(word: &[u8]) -> ObjectSort
+// The sort that a word names, if it names one.
+fn object_sort(word: &[u8]) -> Option<ObjectSort>
     ensures { result ≡ sort_named word.now }
 {
     if text_bytes::same(b"GLOBAL", word) {
-        return ObjectSort::Global;
+        return Some(ObjectSort::Global);
     }
     if text_bytes::same(b"IO", word) {
-        return ObjectSort::Io;
+        return Some(ObjectSort::Io);
     }
     if text_bytes::same(b"HEAP", word) {
-        return ObjectSort::Heap;
+        return Some(ObjectSort::Heap);
     }
     if text_bytes::same(b"STACK_REGION", word) {
-        return ObjectSort::StackRegion;
+        return Some(ObjectSort::StackRegion);
     }
     if text_bytes::same(b"STACK_FRAME", word) {
-        return ObjectSort::StackFrame;
+        return Some(ObjectSort::StackFrame);
     }
     if text_bytes::same(b"OTHER", word) {
-        return ObjectSort::Other;
+        return Some(ObjectSort::Other);
     }
-    ObjectSort::Unknown
+    None
 }
 
-// The table of sorts: what each needs of path, line and name.
-fn meets_sort(sort: ObjectSort, p: &[u8], l: &[u8], n: &[u8]) -> bool
-    ensures { result ≡ meets_sort sort p.now l.now n.now }
+// The table of sorts.
+fn needs_of(sort: ObjectSort) -> Needs
+    ensures { result ≡ needs_of sort }
 {
     match sort {
-        ObjectSort::Global => parts_meet(Need::Needed, Need::Needed, Need::Needed, p, l, n),
-        ObjectSort::Io => parts_meet(Need::Needed, Need::Needed, Need::Needed, p, l, n),
-        ObjectSort::Heap => parts_meet(Need::Needed, Need::Needed, Need::Absent, p, l, n),
-        ObjectSort::StackRegion => parts_meet(Need::Needed, Need::Needed, Need::Absent, p, l, n),
-        ObjectSort::StackFrame => parts_meet(Need::Needed, Need::Absent, Need::Needed, p, l, n),
-        ObjectSort::Other => parts_meet(Need::Free, Need::Free, Need::Free, p, l, n),
-        ObjectSort::Unknown => false,
+        ObjectSort::Global | ObjectSort::Io => Needs {
+            path: Need::Needed,
+            line: Need::Needed,
+            name: Need::Needed,
+        },
+        ObjectSort::Heap | ObjectSort::StackRegion => Needs {
+            path: Need::Needed,
+            line: Need::Needed,
+            name: Need::Absent,
+        },
+        ObjectSort::StackFrame => Needs {
+            path: Need::Needed,
+            line: Need::Absent,
+            name: Need::Needed,
+        },
+        ObjectSort::Other => Needs {
+            path: Need::Free,
+            line: Need::Free,
+            name: Need::Free,
+        },
     }
 }
 
@@ -150,7 +196,10 @@ fn subject_parts_fit(s: &[u8]) -> bool
 pub fn object_fits(sort: &[u8], path: &[u8], line: &[u8], name: &[u8]) -> bool
     ensures { result ≡ parts_fit Object (sort.now ∷ path.now ∷ line.now ∷ name.now ∷ []) }
 {
-    meets_sort(object_sort(sort), path, line, name)
+    match object_sort(sort) {
+        Some(sort) => parts_meet(needs_of(sort), path, line, name),
+        None => false,
+    }
 }
 
 // Three `|`, and parts as the sort needs them.
@@ -197,16 +246,18 @@ fn parts_fit(kind: Kind, s: &[u8]) -> bool
 fn fits_kind(kind: Kind, s: &[u8]) -> bool
     ensures { result ≡ fits_kind kind s.now }
 {
-    if s.len() < 1 {
-        return false;
+    match s {
+        [] => false,
+        [first, ..] => (s.len() <= limit::IDENTIFIER_BYTES)
+            & text_bytes::identifier_first(*first)
+            & parts_fit(kind, s),
     }
-    (s.len() <= limit::IDENTIFIER_BYTES) & text_bytes::identifier_first(s[0]) & parts_fit(kind, s)
 }
 
 pub fn is_identifier(kind: Kind, s: &[u8]) -> bool
     ensures { result ≡ is_identifier kind s.now }
 {
-    fits_kind(kind, s) & text_bytes::all_of(Class::IdentifierByte, s)
+    fits_kind(kind, s) & identifier_bytes(s)
 }
 
 // Functions are the common case: asked before names.

@@ -3,8 +3,8 @@ use Rattle.std.proofs.Common.{rules}
 use Rattle.file_blocks.proofs.Walked.{no_domain, one_domain_lem}
 use Rattle.file_blocks.proofs.put_domain.Goals as goal
 
-pub returns-then-n-d : goal.returns-then-n-d
-returns-then-n-d c = search (rules, no_domain)
+pub returns-then-d-n : goal.returns-then-d-n
+returns-then-d-n c = search (rules, one_domain_lem)
 
-pub returns : goal.returns
-returns c = search (rules, one_domain_lem)
+pub returns-else-d-n : goal.returns-else-d-n
+returns-else-d-n c = search (rules, no_domain)

@@ -3,8 +3,5 @@ use Rattle.std.proofs.Common.{◌≡◌, ◌-◌, length, drop}
 use Rattle.file_blocks.specs.Written.{with_words}
 use Rattle.file_blocks.proofs.put_domains.Given as goal
 
-abbrev pub invariant-loop-i : goal.invariant-loop-i
-invariant-loop-i l = (length l.domains ≡ length l.initial.domains) × (with_words l.n l.domains (drop l.i l.s) ≡ with_words l.n l.initial.domains l.s)
-
-abbrev pub decreases-loop-i : goal.decreases-loop-i
-decreases-loop-i l = length l.s - l.i
+abbrev pub invariant-loop-word : goal.invariant-loop-word
+invariant-loop-word l = (length l.domains ≡ length l.initial.domains) × (with_words l.n l.domains (drop l.word-index l.s) ≡ with_words l.n l.initial.domains l.s)

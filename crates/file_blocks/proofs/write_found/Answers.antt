@@ -17,15 +17,15 @@ pub overflow_add-place-4 : goal.overflow_add-place-4
 overflow_add-place-4 c = search (rules, pattern_fits)
 
 pub write_keys-requires-clause-to_in_bounds : goal.write_keys-requires-clause-to_in_bounds
-write_keys-requires-clause-to_in_bounds c = c.requires.to_in_bounds.1
+write_keys-requires-clause-to_in_bounds c = c.requires.to_in_bounds
 
-pub write_keys-requires-clause-to_len_bound : goal.write_keys-requires-clause-to_len_bound
-write_keys-requires-clause-to_len_bound c = pattern_of _ _ _ _ _ _ _ _ c.next_at-i.ensures c.requires.to_len_bound
+pub write_keys-requires-clause-few : goal.write_keys-requires-clause-few
+write_keys-requires-clause-few c = pattern_of _ _ _ _ _ _ _ _ c.next_at-i.ensures c.requires.few
 
 pub write_keys-requires-clause-out_value : goal.write_keys-requires-clause-out_value
 write_keys-requires-clause-out_value c = c.requires.out_value
 
 pub returns : goal.returns
 returns c = let pre = c.requires in
-    let uid = c.value_at-uid.ensures in
+    let uid = c.value_at.ensures in
     search (rules, context_at_lem, pre, uid)

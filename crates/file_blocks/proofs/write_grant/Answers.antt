@@ -9,8 +9,8 @@ bounds-out-0 c = search (rules, room_for_every)
 pub returns-then-is_every : goal.returns-then-is_every
 returns-then-is_every c = search (rules, every_written)
 
-pub words_of-s-requires : goal.words_of-s-requires
-words_of-s-requires c = search (rules, words_stand)
+pub of-requires : goal.of-requires
+of-requires c = search (rules, words_stand)
 
 pub slice_bounds-put_domains-count : goal.slice_bounds-put_domains-count
 slice_bounds-put_domains-count c = search (rules, room_for_set)

@@ -6,8 +6,8 @@ use Rattle.file_entries.proofs.is_unbound_key.Goals as goal
 pub returns-then-not-is_object_key : goal.returns-then-not-is_object_key
 returns-then-not-is_object_key c = search (rules, no_key)
 
-pub returns-then-not-holds_variable : goal.returns-then-not-holds_variable
-returns-then-not-holds_variable c = search (rules, no_variable)
+pub returns-then-not-is_variable : goal.returns-then-not-is_variable
+returns-then-not-is_variable c = search (rules, no_variable)
 
 pub returns : goal.returns
 returns c = search (rules, key_variable)

@@ -5,19 +5,19 @@ use Rattle.file_fill.proofs.Filling.{page_refuses, page_untouched, page_answers,
 use Rattle.file_fill.proofs.fill.Goals as goal
 
 pub overflow_cast-result : goal.overflow_cast-result
-overflow_cast-result c = search (rules, refusal_fits)
+overflow_cast-result c = refusal_fits _ _ _ c.list_fields.ensures.0 _ c.in-Err.is
 
 pub fill_fields-requires-clause-sound : goal.fill_fields-requires-clause-sound
 fill_fields-requires-clause-sound c = search (rules, fields_sound)
 
-pub fill_fields-requires-clause-n_le_most_fields : goal.fill_fields-requires-clause-n_le_most_fields
-fill_fields-requires-clause-n_le_most_fields c = search (rules, fields_few)
+pub fill_fields-requires-clause-few : goal.fill_fields-requires-clause-few
+fill_fields-requires-clause-few c = search (rules, fields_few)
 
 pub fill_fields-requires-clause-readable : goal.fill_fields-requires-clause-readable
 fill_fields-requires-clause-readable c = search (rules, fields_readable)
 
-pub returns-in-Refused : goal.returns-in-Refused
-returns-in-Refused c = search (rules, page_refuses, page_untouched)
+pub returns-in-Err : goal.returns-in-Err
+returns-in-Err c = search (rules, page_refuses, page_untouched)
 
-pub returns-in-Listed : goal.returns-in-Listed
-returns-in-Listed c = search (rules, page_answers, page_leaves)
+pub returns-in-Ok : goal.returns-in-Ok
+returns-in-Ok c = search (rules, page_answers, page_leaves)

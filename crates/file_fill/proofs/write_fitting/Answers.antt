@@ -9,8 +9,8 @@ returns-then-size-gt-TEXT_BYTES c = search (rules, too_long)
 pub returns-then-out-size : goal.returns-then-out-size
 returns-then-out-size c = search (rules, no_room)
 
-pub write_filled-requires-clause-fits : goal.write_filled-requires-clause-fits
-write_filled-requires-clause-fits c = search (rules, room_for)
+pub write_filled-requires : goal.write_filled-requires
+write_filled-requires c = search (rules, room_for)
 
 pub returns : goal.returns
 returns c = search (rules, is_written, left_written)

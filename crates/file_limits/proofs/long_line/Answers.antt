@@ -6,8 +6,8 @@ use Rattle.file_limits.proofs.long_line.Goals as goal
 pub returns-then-is_long : goal.returns-then-is_long
 returns-then-is_long c = search (rules, first_here)
 
-pub loop-i-preserved : goal.loop-i-preserved
-loop-i-preserved c = search (rules, first_on)
+pub loop-field-preserved : goal.loop-field-preserved
+loop-field-preserved c = search (rules, first_on)
 
 pub returns : goal.returns
 returns c = search (rules, first_nowhere)

@@ -7,14 +7,14 @@ use Rattle.file_lookup.proofs.name_place.Goals as goal
 pub name_in_fields-requires-clause-sound : goal.name_in_fields-requires-clause-sound
 name_in_fields-requires-clause-sound c = search (rules, fields_sound)
 
-pub name_in_fields-requires-clause-n_le_most_fields : goal.name_in_fields-requires-clause-n_le_most_fields
-name_in_fields-requires-clause-n_le_most_fields c = search (rules, fields_few)
+pub name_in_fields-requires-clause-few : goal.name_in_fields-requires-clause-few
+name_in_fields-requires-clause-few c = search (rules, fields_few)
 
 pub name_in_fields-requires-clause-readable : goal.name_in_fields-requires-clause-readable
 name_in_fields-requires-clause-readable c = search (rules, fields_readable)
 
-pub returns-in-Refused : goal.returns-in-Refused
-returns-in-Refused c = search (rules, page_refuses, front_in_text)
+pub returns-in-Err : goal.returns-in-Err
+returns-in-Err c = search (rules, page_refuses, front_in_text)
 
-pub returns-in-Listed : goal.returns-in-Listed
-returns-in-Listed c = search (rules, page_answers, page_in_text)
+pub returns-in-Ok : goal.returns-in-Ok
+returns-in-Ok c = search (rules, page_answers, page_in_text)

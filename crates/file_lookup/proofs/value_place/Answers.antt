@@ -1,4 +1,4 @@
--- The value's length is how many bytes stand there.
+-- The value stands in the text from the field's start on.
 use Rattle.std.proofs.Common.{rules}
 use Rattle.file_lookup.proofs.Placed.{value_fits, value_stretch, value_ends}
 use Rattle.file_lookup.proofs.value_place.Goals as goal

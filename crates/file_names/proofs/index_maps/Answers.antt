@@ -23,6 +23,6 @@ index_members-functions-requires-clause-names_end c = search (rules, functions_e
 
 pub returns-clause-maps_to : goal.returns-clause-maps_to
 returns-clause-maps_to c =
-    maps_to _ _ _ c.requires.sound c.requires.n_value _ _ _ _ _ _ c.requires.objects_fresh c.requires.subjects_fresh c.requires.functions_fresh
+    maps_to _ _ _ c.requires.sound c.requires.in_limits _ _ _ _ _ _ c.requires.objects_fresh c.requires.subjects_fresh c.requires.functions_fresh
     c.index_domains-objects.ensures.ix_len_unchanged c.index_domains-subjects.ensures.ix_len_unchanged c.index_members-functions.ensures.ix_len_unchanged
     _ _ _ c.index_domains-objects.ensures.indexed_as c.index_domains-subjects.ensures.indexed_as c.index_members-functions.ensures.indexed_as

@@ -4,9 +4,6 @@ use Rattle.file_read.proofs.Asked.{unbound_fits, twin_fits, few_entries_lem}
 use Rattle.file_read.proofs.Ruling.{unbound_answers, unbound_leaves, twin_answers, twin_leaves, accepts, writes, keeps}
 use Rattle.file_read.proofs.read_known.Goals as goal
 
-pub unbound_line-unbound-requires : goal.unbound_line-unbound-requires
-unbound_line-unbound-requires c = c.requires.numbered.sound.room
-
 pub refused-requires : goal.refused-requires
 refused-requires c = search (rules, unbound_fits, c.requires.numbered.readable)
 
@@ -14,8 +11,7 @@ pub returns-then-unbound-ne-NO_LINE : goal.returns-then-unbound-ne-NO_LINE
 returns-then-unbound-ne-NO_LINE c = search (rules, unbound_answers, unbound_leaves)
 
 pub twin_line-twin-requires : goal.twin_line-twin-requires
-twin_line-twin-requires c = let given = c.requires.numbered in
-    record { n_in_bounds = given.sound.room; n_len_bound = few_entries_lem _ given.readable given.within }
+twin_line-twin-requires c = few_entries_lem _ c.requires.numbered.readable c.requires.numbered.within
 
 pub refused-requires-then-twin-ne-NO_LINE : goal.refused-requires-then-twin-ne-NO_LINE
 refused-requires-then-twin-ne-NO_LINE c = search (rules, twin_fits, c.requires.numbered.readable)
@@ -30,11 +26,11 @@ pub write_table-requires : goal.write_table-requires
 write_table-requires c = let given = c.requires.numbered in
     let room = c.if-table-lt-TABLE_WORDS.false in
     record {
-      n_in_bounds = (given.sound.room, given.few);
+      few_fields = given.few;
       worded = given.worded;
-      of_objects = (given.of_objects, given.of_subjects, given.of_functions);
-      n_value = (given.readable.numbered, given.within);
-      table_words_in_bounds = (room, c.requires.cleared.clear room);
+      of_maps = (given.of_objects, given.of_subjects, given.of_functions);
+      in_limits = (given.readable.numbered, given.within);
+      zeros = (room, c.requires.cleared.clear room);
     }
 
 pub returns : goal.returns

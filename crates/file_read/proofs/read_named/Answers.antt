@@ -7,9 +7,9 @@ use Rattle.file_read.proofs.read_named.Goals as goal
 pub unknown_line-unknown-requires : goal.unknown_line-unknown-requires
 unknown_line-unknown-requires c = let given = c.requires.numbered in
     record {
-      n_in_bounds = given.sound.room;
-      mapped = given.of_subjects.index;
-      objects_value = (given.of_objects.counted, functions_few _ _ given.of_functions);
+      of_subjects = given.of_subjects.index;
+      of_objects = given.of_objects.counted;
+      few_functions = functions_few _ _ given.of_functions;
       worded = given.worded;
     }
 

@@ -9,14 +9,11 @@ slice_bounds-write_descriptor-end c = search (rules, all_room)
 pub slice_bounds-write_descriptor-end-then-is_all : goal.slice_bounds-write_descriptor-end-then-is_all
 slice_bounds-write_descriptor-end-then-is_all c = search (rules, all_part)
 
-pub write_descriptor-requires-clause-n_in_bounds : goal.write_descriptor-requires-clause-n_in_bounds
-write_descriptor-requires-clause-n_in_bounds c = (search rules, search rules)
-
 pub write_descriptor-requires-clause-objects_value : goal.write_descriptor-requires-clause-objects_value
 write_descriptor-requires-clause-objects_value c = (search rules, search rules)
 
-pub write_descriptor-requires-clause-to_len_bound : goal.write_descriptor-requires-clause-to_len_bound
-write_descriptor-requires-clause-to_len_bound c = search (rules, none_short)
+pub write_descriptor-requires-clause-few_elements : goal.write_descriptor-requires-clause-few_elements
+write_descriptor-requires-clause-few_elements c = search (rules, none_short)
 
 pub write_descriptor-requires-clause-out_value : goal.write_descriptor-requires-clause-out_value
 write_descriptor-requires-clause-out_value c = search (rules, all_unwritten)
@@ -24,12 +21,12 @@ write_descriptor-requires-clause-out_value c = search (rules, all_unwritten)
 pub returns-then-is_all : goal.returns-then-is_all
 returns-then-is_all c = search (rules, all_filled)
 
-pub write_items-requires-clause-to_in_bounds : goal.write_items-requires-clause-to_in_bounds
-write_items-requires-clause-to_in_bounds c = items_room _
+pub write_items-requires-clause-room : goal.write_items-requires-clause-room
+write_items-requires-clause-room c = items_room _
     c.requires.access _ _ _ _ _
     c.value_at-v.ensures _ c.is_all.ensures
     c.args.out.now
-    c.requires.to_in_bounds c.if-is_all.false
+    c.requires.room c.if-is_all.false
 
 pub returns : goal.returns
 returns c = search (rules, items_filled)

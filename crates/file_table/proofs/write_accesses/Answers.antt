@@ -7,8 +7,8 @@ use Rattle.file_table.proofs.write_accesses.Goals as goal
 pub write_access-reads-requires-clause-access : goal.write_access-reads-requires-clause-access
 write_access-reads-requires-clause-access c = reading
 
-pub write_access-reads-requires-clause-to_in_bounds : goal.write_access-reads-requires-clause-to_in_bounds
-write_access-reads-requires-clause-to_in_bounds c = search (rules, reads_room)
+pub write_access-reads-requires-clause-room : goal.write_access-reads-requires-clause-room
+write_access-reads-requires-clause-room c = search (rules, reads_room)
 
 pub overflow_mul-at : goal.overflow_mul-at
 overflow_mul-at c = search (rules, reads_fit)
@@ -28,14 +28,14 @@ write_access-writes-requires-clause-access c = writing
 pub write_access-writes-requires-clause-out_value : goal.write_access-writes-requires-clause-out_value
 write_access-writes-requires-clause-out_value c = search (rules, writes_unwritten)
 
-pub write_access-writes-requires-clause-to_in_bounds : goal.write_access-writes-requires-clause-to_in_bounds
-write_access-writes-requires-clause-to_in_bounds c = writes_room _ _ _ _ _ _
-    c.requires.to_in_bounds _ _
+pub write_access-writes-requires-clause-room : goal.write_access-writes-requires-clause-room
+write_access-writes-requires-clause-room c = writes_room _ _ _ _ _ _
+    c.requires.room _ _
     c.write_access-reads.ensures
 
 pub overflow_add-result : goal.overflow_add-result
 overflow_add-result c = let h = both_fit _ c.args.out.now _
-    _ c.requires.to_in_bounds
+    _ c.requires.room
     c.write_access-reads.ensures.counted c.write_access-writes.ensures.counted
     (search (rules, c.well_formed)) in
     search (rules, h)

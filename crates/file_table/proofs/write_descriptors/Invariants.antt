@@ -1,10 +1,12 @@
--- The loop: d descriptors are written, those of the entries before field `from`.
-use Rattle.std.proofs.Common.{◌-◌}
+-- The loop: d descriptors are written, and those of the entries that are left are to come.
+use Rattle.std.proofs.Common.{◌≡◌}
+use Rattle.file_fields.specs.Stretches.{fields_of, left_of}
 use Rattle.file_table.proofs.Accessed.{DescriptorsWritten}
 use Rattle.file_table.proofs.write_descriptors.Given as goal
 
-abbrev pub invariant-loop-from : goal.invariant-loop-from
-invariant-loop-from l = DescriptorsWritten l.t l.list l.n l.from l.d l.out
-
-abbrev pub decreases-loop-from : goal.decreases-loop-from
-decreases-loop-from l = l.n - l.from
+abbrev pub invariant-loop-entry : goal.invariant-loop-entry
+invariant-loop-entry l =
+    (goal.iterator-loop-entry).can_next l.entry-iterator ×
+    (goal.iterator-loop-entry).is_finite l.entry-iterator ×
+    (l.entry-iterator.rest.file ≡ l.file) ×
+    DescriptorsWritten (fields_of l.file) (left_of l.entry-iterator) l.d l.out

@@ -3,8 +3,8 @@ use Rattle.std.proofs.Common.{rules}
 use Rattle.file_things.proofs.Things.{one_asked, one_put, each_asked, each_put, an_entry_asked, an_entry_put, nothing_put}
 use Rattle.file_things.proofs.put_field.Goals as goal
 
-pub put_name-requires-clause-writable : goal.put_name-requires-clause-writable
-put_name-requires-clause-writable c = search (rules, one_asked)
+pub put_name-requires : goal.put_name-requires
+put_name-requires c = search (rules, one_asked)
 
 pub put_each-requires-clause-writable : goal.put_each-requires-clause-writable
 put_each-requires-clause-writable c = search (rules, each_asked)

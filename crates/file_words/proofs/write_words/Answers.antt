@@ -5,11 +5,11 @@ use Rattle.file_words.proofs.Writing.{count_first, written_first, its_hash, its_
 use Rattle.file_words.proofs.Writing.{count_on, room_here, room_fits, long_on, written_on, all_counted, all_written}
 use Rattle.file_words.proofs.write_words.Goals as goal
 
-pub loop-end-init : goal.loop-end-init
-loop-end-init c = search (rules, spaced_at_first, count_first, written_first)
+pub loop-found-init : goal.loop-found-init
+loop-found-init c = search (rules, spaced_at_first, count_first, written_first)
 
-pub returns-in-NoneLeft : goal.returns-in-NoneLeft
-returns-in-NoneLeft c = search (rules, all_counted, all_written)
+pub returns : goal.returns
+returns c = search (rules, all_counted, all_written)
 
 pub slice_bounds-name-count : goal.slice_bounds-name-count
 slice_bounds-name-count c = search (rules, its_start)
@@ -32,8 +32,8 @@ bounds-out-w c = search (rules, room_here)
 pub overflow_add-w : goal.overflow_add-w
 overflow_add-w c = search (rules, room_fits)
 
-pub loop-end-smaller : goal.loop-end-smaller
-loop-end-smaller c = search (rules, less_left)
+pub loop-found-smaller : goal.loop-found-smaller
+loop-found-smaller c = search (rules, less_left)
 
-pub loop-end-preserved : goal.loop-end-preserved
-loop-end-preserved c = (search (rules, spaced_on), search (rules, long_on), search (rules, count_on), search (rules, written_on))
+pub loop-found-preserved : goal.loop-found-preserved
+loop-found-preserved c = (search (rules, spaced_on), search (rules, long_on), search (rules, count_on), search (rules, written_on))

@@ -1,16 +1,20 @@
 -- From its first key on it is the same; where there is none, it is the default.
 use Rattle.std.proofs.Common.{rules}
-use Rattle.filled_parts.proofs.Texts.{found_room, found_wrote, omitted_room, omitted_wrote}
+use Rattle.filled_lines.proofs.Sinks.{fits_one, fits_last, put_two}
+use Rattle.filled_parts.proofs.Texts.{found_fits, found_put, omitted_fits, omitted_put}
 use Rattle.filled_parts.proofs.context.Goals as goal
 
-pub omitted_context-requires : goal.omitted_context-requires
-omitted_context-requires c = search (rules, omitted_room)
-
-pub returns-then-to-first : goal.returns-then-to-first
-returns-then-to-first c = search (rules, omitted_wrote)
-
 pub found_context-requires-clause-fits : goal.found_context-requires-clause-fits
-found_context-requires-clause-fits c = search (rules, found_room)
+found_context-requires-clause-fits g c = search (rules, found_fits g.S.Sink.Fits)
 
-pub returns : goal.returns
-returns c = search (rules, found_wrote)
+pub bare_line-requires : goal.bare_line-requires
+bare_line-requires g c = search (rules, fits_one g.met.S.Sink.laws, omitted_fits g.S.Sink.Fits)
+
+pub omitted_keys-requires : goal.omitted_keys-requires
+omitted_keys-requires g c = search (rules, fits_last g.met.S.Sink.laws, omitted_fits g.S.Sink.Fits)
+
+pub returns-in-Some : goal.returns-in-Some
+returns-in-Some g c = search (rules, found_put g.S.Sink.Put)
+
+pub returns-in-None : goal.returns-in-None
+returns-in-None g c = search (rules, omitted_put g.S.Sink.Put, put_two g.met.S.Sink.laws)

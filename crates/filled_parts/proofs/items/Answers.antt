@@ -1,42 +1,18 @@
--- The loop: the items before number i are written.
-use Rattle.std.proofs.Common.{rules}
-use Rattle.file_fields.proofs.Places.{objects_fit}
-use Rattle.file_fields.proofs.Walking.{walk_less}
-use Rattle.filled_parts.proofs.Loops.{items_begin, within_list, texts_start, next_item_room, texts_fit, texts_again, texts_length, texts_done}
+-- The loop: the items before those that are left are there.
+use Rattle.paper.specs.Filled.{item_text}
+use Rattle.filled_parts.proofs.Loops.{items_begin, walk_room, walk_again, walk_done}
 use Rattle.filled_parts.proofs.items.Goals as goal
 
-pub overflow_add-access : goal.overflow_add-access
-overflow_add-access c = search (rules, objects_fit)
+pub loop-of_item-init : goal.loop-of_item-init
+loop-of_item-init g c =
+    rw c.into_iter-of_item-iterator.ensures.into_iter_gives
+    (items_begin g.met.S.Sink.laws _ c.args.fields _ _ c.each-of_item-items.ensures c.requires.fits)
 
-pub loop-i-init : goal.loop-i-init
-loop-i-init c = search (rules, items_begin)
+pub item-requires-clause-fits : goal.item-requires-clause-fits
+item-requires-clause-fits g c = walk_room g.met.S.Sink.laws (item_text c.args.access) _ _ c.loop-of_item.of_item-iterator _ c.loop-of_item.invariant _ _ c.in-Some.ensures.steps
 
-pub overflow_add-access-in-loop-i : goal.overflow_add-access-in-loop-i
-overflow_add-access-in-loop-i c = search (rules, objects_fit)
-
-pub slice_bounds-item-count : goal.slice_bounds-item-count
-slice_bounds-item-count c = search (rules, texts_start)
-
-pub slice_bounds-item-start : goal.slice_bounds-item-start
-slice_bounds-item-start c = search (rules, texts_start)
-
-pub item-end-requires-clause-to_in_bounds : goal.item-end-requires-clause-to_in_bounds
-item-end-requires-clause-to_in_bounds c = search (rules, within_list)
-
-pub item-end-requires-clause-fits : goal.item-end-requires-clause-fits
-item-end-requires-clause-fits c = search (rules, next_item_room)
-
-pub overflow_add-end : goal.overflow_add-end
-overflow_add-end c = search (rules, texts_fit)
-
-pub loop-i-smaller : goal.loop-i-smaller
-loop-i-smaller c = search (rules, walk_less)
-
-pub loop-i-preserved : goal.loop-i-preserved
-loop-i-preserved c = search (rules, texts_again)
-
-pub shape_of-out : goal.shape_of-out
-shape_of-out c = search (rules, texts_length)
+pub loop-of_item-preserved : goal.loop-of_item-preserved
+loop-of_item-preserved g c = walk_again g.met.S.Sink.laws (item_text c.args.access) _ _ c.loop-of_item.of_item-iterator _ c.loop-of_item.invariant _ _ c.in-Some.ensures.steps _ c.item.ensures
 
 pub returns : goal.returns
-returns c = search (rules, texts_done)
+returns g c = walk_done g.met.S.Sink.laws (item_text c.args.access) _ _ c.loop-of_item.of_item-iterator _ c.loop-of_item.invariant c.in-None.ensures.steps

@@ -1,28 +1,15 @@
--- The loop: the lines of the fields before number i are written.
-use Rattle.std.proofs.Common.{rules}
-use Rattle.filled_text.proofs.Loops.{lines_begin, lines_start, lines_room, lines_fit, lines_again, lines_length, lines_done}
+-- The loop: the lines of the fields before the next one are there.
+use Rattle.filled_text.proofs.Loops.{lines_begin, line_room, lines_again, lines_done}
 use Rattle.filled_text.proofs.written_lines.Goals as goal
 
-pub loop-i-init : goal.loop-i-init
-loop-i-init c = search (rules, lines_begin)
+pub loop-field-init : goal.loop-field-init
+loop-field-init g c = lines_begin g.met.S.Sink.laws _ _ c.requires
 
-pub slice_bounds-written_line-count : goal.slice_bounds-written_line-count
-slice_bounds-written_line-count c = search (rules, lines_start)
+pub written_line-requires : goal.written_line-requires
+written_line-requires g c = line_room g.met.S.Sink.laws _ _ _ c.fields-field-items.ensures _ _ c.loop-field.invariant c.loop-field-test.true
 
-pub slice_bounds-written_line-start : goal.slice_bounds-written_line-start
-slice_bounds-written_line-start c = search (rules, lines_start)
-
-pub written_line-end-requires-clause-fits : goal.written_line-end-requires-clause-fits
-written_line-end-requires-clause-fits c = search (rules, lines_room)
-
-pub overflow_add-end : goal.overflow_add-end
-overflow_add-end c = search (rules, lines_fit)
-
-pub loop-i-preserved : goal.loop-i-preserved
-loop-i-preserved c = search (rules, lines_again)
-
-pub shape_of-out : goal.shape_of-out
-shape_of-out c = search (rules, lines_length)
+pub loop-field-preserved : goal.loop-field-preserved
+loop-field-preserved g c = lines_again g.met.S.Sink.laws _ _ _ c.fields-field-items.ensures _ _ c.loop-field.invariant c.loop-field-test.true _ c.written_line.ensures
 
 pub returns : goal.returns
-returns c = search (rules, lines_done)
+returns g c = lines_done g.met.S.Sink.laws _ _ _ c.fields-field-items.ensures _ _ c.loop-field.invariant c.loop-field-test.false

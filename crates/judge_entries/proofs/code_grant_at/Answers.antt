@@ -1,20 +1,17 @@
--- Each access by its clause.
+-- Case by case.
 use Rattle.std.proofs.Common.{rules}
-use Rattle.judge_entries.specs.Passes.{code_grant_at}
+use Rattle.judge_entries.proofs.Passes.{grant_of_returns, grant_of_calls}
 use Rattle.judge_entries.proofs.code_grant_at.Goals as goal
+use Rattle.judge_entries.proofs.code_grant_at.Goals.{in-Return, in_default}
 
-pub returns-in-Read : goal.returns-in-Read
-unfolding code_grant_at
-returns-in-Read c = search rules
+pub returns-then-matches : goal.returns-then-matches
+returns-then-matches c = elim c.match-matches.branch [
+  | in-Return w ↦ search (rules, grant_of_returns)
+  | in_default w ↦ search rules
+]
 
-pub returns-in-Write : goal.returns-in-Write
-unfolding code_grant_at
-returns-in-Write c = search rules
-
-pub returns-in-Call : goal.returns-in-Call
-unfolding code_grant_at
-returns-in-Call c = search rules
-
-pub returns-in-Return : goal.returns-in-Return
-unfolding code_grant_at
-returns-in-Return c = search rules
+pub returns-else-matches : goal.returns-else-matches
+returns-else-matches c = elim c.match-matches.branch [
+  | in-Return w ↦ search rules
+  | in_default w ↦ search (rules, grant_of_calls)
+]

@@ -1,21 +1,18 @@
 -- The loop: the entries that are left decide as those from the first match on do, whatever the allocation.
 use Rattle.std.proofs.Common.{rules}
-use Rattle.judge_entries.proofs.Passes.{granted_has_it, code_ends, code_not_granted, code_not_matched, code_allowed}
+use Rattle.judge_entries.proofs.Passes.{code_ends, code_not_granted, code_not_matched, code_allowed}
 use Rattle.judge_entries.proofs.first_granting_code.Goals as goal
-use Rattle.judge_entries.proofs.first_granting_code.Goals.{else-code_granted, then-code_granted+else-moment_fits}
+use Rattle.judge_entries.proofs.first_granting_code.Goals.{else-code_granted-via-then-code_granted+else-entry_fits, else-code_granted-via-else-code_granted}
 
-pub moment_fits-requires-clause-event_value : goal.moment_fits-requires-clause-event_value
-moment_fits-requires-clause-event_value c = search (rules, granted_has_it)
-
-pub returns-then-moment_fits : goal.returns-then-moment_fits
-returns-then-moment_fits c = search (rules, code_allowed)
+pub returns-then-entry_fits : goal.returns-then-entry_fits
+returns-then-entry_fits g c = search (rules, code_allowed)
 
 pub loop-k-preserved : goal.loop-k-preserved
-loop-k-preserved c =
-    elim c.if-code_granted.branch [
-      | then-code_granted+else-moment_fits w ↦ search (rules, code_not_matched)
-      | else-code_granted w ↦ search (rules, code_not_granted)
+loop-k-preserved g c =
+    elim c.else-code_granted.branch [
+      | else-code_granted-via-then-code_granted+else-entry_fits w ↦ search (rules, code_not_matched)
+      | else-code_granted-via-else-code_granted w ↦ search (rules, code_not_granted)
     ]
 
 pub returns : goal.returns
-returns c = search (rules, code_ends)
+returns g c = search (rules, code_ends)

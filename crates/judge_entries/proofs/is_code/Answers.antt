@@ -1,20 +1,10 @@
--- Each access by its clause.
+-- Case by case.
 use Rattle.std.proofs.Common.{rules}
-use Rattle.paper.specs.Verdict.{is_code}
+use Rattle.judge_entries.proofs.Passes.{code_called, data_otherwise}
 use Rattle.judge_entries.proofs.is_code.Goals as goal
 
-pub returns-in-Read : goal.returns-in-Read
-unfolding is_code
-returns-in-Read c = search rules
-
-pub returns-in-Write : goal.returns-in-Write
-unfolding is_code
-returns-in-Write c = search rules
-
 pub returns-in-Call : goal.returns-in-Call
-unfolding is_code
-returns-in-Call c = search rules
+returns-in-Call c = code_called _ c.in-Call.is
 
-pub returns-in-Return : goal.returns-in-Return
-unfolding is_code
-returns-in-Return c = search rules
+pub returns-in_default : goal.returns-in_default
+returns-in_default c = search (rules, data_otherwise)

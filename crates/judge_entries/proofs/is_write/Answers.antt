@@ -1,20 +1,10 @@
--- Each access by its clause.
+-- Case by case.
 use Rattle.std.proofs.Common.{rules}
-use Rattle.judge_entries.specs.Passes.{is_write}
+use Rattle.judge_entries.proofs.Passes.{written, not_written}
 use Rattle.judge_entries.proofs.is_write.Goals as goal
 
-pub returns-in-Read : goal.returns-in-Read
-unfolding is_write
-returns-in-Read c = search rules
-
 pub returns-in-Write : goal.returns-in-Write
-unfolding is_write
-returns-in-Write c = search rules
+returns-in-Write c = search (rules, written)
 
-pub returns-in-Call : goal.returns-in-Call
-unfolding is_write
-returns-in-Call c = search rules
-
-pub returns-in-Return : goal.returns-in-Return
-unfolding is_write
-returns-in-Return c = search rules
+pub returns-in_default : goal.returns-in_default
+returns-in_default c = search (rules, not_written)

@@ -1,37 +1,46 @@
 -- What each way out of the loop says of the whole match.
-use Rattle.std.proofs.Common.{rules}
-use Rattle.judge_pattern.proofs.Laws.{rest_in_pattern, rest_in_stack, is_there, stops_there, begins_at, walk_falls, last_all, walk_matches, walk_never, walk_all, walk_ends, walk_swallows}
+use Rattle.std.proofs.Common.{rules, ◌≡◌, ◌<◌, not, eqb, length, position}
+use Rattle.std.proofs.lemmas.Iterator.{YieldsList-from_slice}
+use Rattle.std.proofs.lemmas.Iterator.Search.{position_from_yields_List}
+use Rattle.judge_pattern.proofs.Laws.{nothing_but_all, behind_alls, none_left_meets, meeting_in_stack, at_meeting, left_at_meeting, walk_matches, walk_never, walk_falls, walk_all, walk_swallows}
 use Rattle.judge_pattern.proofs.+walk.Goals as goal
 
-pub returns-then-start-pattern : goal.returns-then-start-pattern
-returns-then-start-pattern t c = search (rules, last_all)
-
-pub next_meeting-k-requires : goal.next_meeting-k-requires
-next_meeting-k-requires t c = search (rules, is_there, stops_there)
+pub returns-in_default : goal.returns-in_default
+returns-in_default t c =
+    let told : c.position.result ≡ position (λ w. not (eqb w 0)) c.args.pattern.now =
+    position_from_yields_List (λ w. not (eqb w 0)) _ _ c.position.result c.position.ensures.ran (YieldsList-from_slice c.args.pattern.now cc) (λ x b q k. search rules) in
+    nothing_but_all _ _ _ (search rules)
 
 pub loop-k-init : goal.loop-k-init
-loop-k-init t c = search (rules, is_there, stops_there, begins_at)
+loop-k-init t c =
+    let told : c.position.result ≡ position (λ w. not (eqb w 0)) c.args.pattern.now =
+    position_from_yields_List (λ w. not (eqb w 0)) _ _ c.position.result c.position.ensures.ran (YieldsList-from_slice c.args.pattern.now cc) (λ x b q k. search rules) in
+    behind_alls _ _ _ _ (search rules)
 
-pub returns-in-Match : goal.returns-in-Match
-returns-in-Match t c = search (rules, walk_matches)
-
-pub returns-in-Never : goal.returns-in-Never
-returns-in-Never t c = search (rules, walk_never)
+pub offset_bounds-left-k : goal.offset_bounds-left-k
+offset_bounds-left-k t c =
+    let room : c.in-Some-next_meeting.k < length c.args.stack.now = meeting_in_stack _ _ _ _ _ _ c.loop-k.invariant (search rules) in
+    search rules
 
 pub walk-requires : goal.walk-requires
 walk-requires t c =
-    let inv = c.loop-k.invariant in
-    let further = c.behind_alls-start.ensures.0.further in
-    (walk_falls _ _ _ _ _ _ inv.4 c.up_to_all.result c.up_to_all.ensures _ _ c.in-All.is _ _ _ further inv.0 (search rules), search (rules, rest_in_pattern, rest_in_stack))
+    (walk_falls _ _ _ _ _ (at_meeting _ _ _ _ _ _ c.loop-k.invariant (search rules)) _ c.up_to_all.ensures _ _ c.in-All.is _ (search rules), tt)
+
+pub returns-in-Match : goal.returns-in-Match
+returns-in-Match t c =
+    walk_matches _ _ _ _ _ (at_meeting _ _ _ _ _ _ c.loop-k.invariant (search rules)) _ c.up_to_all.ensures c.in-Match.is
+
+pub returns-in-Never : goal.returns-in-Never
+returns-in-Never t c =
+    walk_never _ _ _ _ _ (at_meeting _ _ _ _ _ _ c.loop-k.invariant (search rules)) _ c.up_to_all.ensures c.in-Never.is
 
 pub returns-in-All : goal.returns-in-All
-returns-in-All t c = search (rules, walk_all)
+returns-in-All t c =
+    walk_all _ _ _ _ _ (at_meeting _ _ _ _ _ _ c.loop-k.invariant (search rules)) _ c.up_to_all.ensures _ _ c.in-All.is _ c.walk.ensures
 
 pub loop-k-preserved : goal.loop-k-preserved
 loop-k-preserved t c =
-    let inv = c.loop-k.invariant in
-    let later = c.next_meeting-k-in-Fail.ensures in
-    (search rules, later.in_stack, inv.2, inv.3, walk_swallows _ _ _ _ _ _ inv.4 c.up_to_all.result c.up_to_all.ensures c.in-Fail.is c.loop-k-test.true _ later)
+    walk_swallows _ _ _ _ _ (at_meeting _ _ _ _ _ _ c.loop-k.invariant (search rules)) _ c.up_to_all.ensures c.in-Fail.is (left_at_meeting _ _ _ _ _ _ c.loop-k.invariant (search rules))
 
 pub returns : goal.returns
-returns t c = search (rules, walk_ends)
+returns t c = search (rules, none_left_meets)

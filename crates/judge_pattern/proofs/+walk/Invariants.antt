@@ -1,18 +1,13 @@
--- Unread elements plus unread frames fall; what the frames swallowed so far leave decides.
-use Rattle.std.proofs.Common.{◌≡◌, ◌+◌, ◌-◌, ◌<◌, ◌≤◌, length, get_or}
-use Rattle.judge_pattern.specs.Run.{matches_later}
+-- Unread elements fall; what the frames swallowed so far leave decides (`Begins`).
+use Rattle.std.proofs.Common.{length}
+use Rattle.judge_pattern.proofs.Laws.{Begins}
 use Rattle.judge_pattern.proofs.+walk.Given as goal
 
 abbrev pub decreases-walk : goal.decreases-walk
-decreases-walk l = (length l.pattern.now - l.i) + (length l.stack.now - l.j)
+decreases-walk l = length l.pattern.now
 
 abbrev pub invariant-loop-k : goal.invariant-loop-k
-invariant-loop-k l =
-    (l.j ≤ l.k)
-    × (l.k ≤ length l.stack)
-    × (l.start < length l.pattern)
-    × (get_or l.pattern l.start 0 ≡ 0 → ⊥)
-    × (matches_later l.functions l.pattern l.i l.stack l.j ≡ matches_later l.functions l.pattern l.start l.stack l.k)
+invariant-loop-k l = Begins l.functions l.pattern l.stack l.elements l.left
 
 abbrev pub decreases-loop-k : goal.decreases-loop-k
-decreases-loop-k l = length l.stack - l.k
+decreases-loop-k l = length l.left

@@ -1,13 +1,13 @@
--- The elements from place i on decide what all do.
-use Rattle.std.proofs.Common.{rules}
-use Rattle.judge_pattern.proofs.Laws.{all_so_far, not_all, all_to_end}
+-- The chain's test, word by word.
+use Rattle.std.proofs.Common.{rules, ◌≡◌, ◌∙◌, eqb}
+use Rattle.std.specs.List.{list_all}
+use Rattle.std.proofs.lemmas.Iterator.{YieldsList-from_slice}
+use Rattle.std.proofs.lemmas.Iterator.Search.{all_from_yields_List}
+use Rattle.judge_pattern.proofs.Laws.{alls_told}
 use Rattle.judge_pattern.proofs.is_all.Goals as goal
 
-pub returns-then-pattern-i-ne-ALL : goal.returns-then-pattern-i-ne-ALL
-returns-then-pattern-i-ne-ALL c = search (rules, not_all)
-
-pub loop-i-preserved : goal.loop-i-preserved
-loop-i-preserved c = search (rules, all_so_far)
-
 pub returns : goal.returns
-returns c = search (rules, all_to_end)
+returns c =
+    let told : c.all.result ≡ list_all (λ w. eqb w 0) c.args.pattern.now =
+    all_from_yields_List (λ w. eqb w 0) _ _ c.all.result c.all.ensures.ran (YieldsList-from_slice c.args.pattern.now cc) (λ x b q k. search rules) in
+    told ∙ alls_told c.args.pattern.now

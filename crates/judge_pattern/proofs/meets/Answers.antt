@@ -6,8 +6,8 @@ use Rattle.judge_pattern.proofs.meets.Goals as goal
 pub returns-then-one-lt-FIRST_DOMAIN : goal.returns-then-one-lt-FIRST_DOMAIN
 returns-then-one-lt-FIRST_DOMAIN c = search (rules, function_decides)
 
-pub returns-then-functions-f : goal.returns-then-functions-f
-returns-then-functions-f c = search (rules, unlisted_in_none)
+pub returns-in-Some : goal.returns-in-Some
+returns-in-Some c = search (rules, domain_decides)
 
-pub returns : goal.returns
-returns c = search (rules, domain_decides)
+pub returns-in-None : goal.returns-in-None
+returns-in-None c = search (rules, unlisted_in_none)

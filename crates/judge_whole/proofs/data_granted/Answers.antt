@@ -1,10 +1,11 @@
--- The same event in another value.
+-- The subject is asked first, then the entry's own descriptors for the access.
 use Rattle.std.proofs.Common.{rules}
-use Rattle.judge_whole.proofs.Laws.{code_alike, target_alike, granted_alike}
+use Rattle.judge_entries.proofs.Passes.{another_subject}
+use Rattle.judge_whole.proofs.Laws.{asked_grant}
 use Rattle.judge_whole.proofs.data_granted.Goals as goal
 
-pub data_granted-requires-clause-access_value : goal.data_granted-requires-clause-access_value
-data_granted-requires-clause-access_value c = (search (rules, code_alike), search (rules, target_alike))
+pub returns-then-not-has_subject : goal.returns-then-not-has_subject
+returns-then-not-has_subject g c = search (rules, another_subject)
 
 pub returns : goal.returns
-returns c = search (rules, granted_alike)
+returns g c = search (rules, asked_grant)

@@ -1,10 +1,7 @@
--- The loop: the zeros written so far, then what stood there.
+-- The zeros, then what stood there.
 use Rattle.std.proofs.Common.{rules}
-use Rattle.overlap_meeting.proofs.Writing.{zero_written, witness_cleared}
+use Rattle.overlap_meeting.proofs.Writing.{witness_cleared}
 use Rattle.overlap_meeting.proofs.clear_witness.Goals as goal
 
-pub loop-i-preserved : goal.loop-i-preserved
-loop-i-preserved c = search (rules, zero_written)
-
 pub returns : goal.returns
-returns c = search (rules, witness_cleared)
+returns c = witness_cleared _ _ c.requires (c.fill.ensures.after (λ y h. search rules))

@@ -1,16 +1,15 @@
 -- The first elements are apart, or the last.
-use Rattle.std.proofs.Common.{rules}
-use Rattle.overlap_meeting.proofs.Ends.{not_tested, begin_apart, end_apart}
+use Rattle.overlap_meeting.proofs.Ends.{begin_apart, end_apart}
 use Rattle.overlap_meeting.proofs.ends_differ.Goals as goal
 
-pub returns-then-m-eq0 : goal.returns-then-m-eq0
-returns-then-m-eq0 c = search (rules, not_tested)
-
-pub returns-then-n-eq0 : goal.returns-then-n-eq0
-returns-then-n-eq0 c = search (rules, not_tested)
-
 pub returns-then-differ : goal.returns-then-differ
-returns-then-differ c = search (rules, begin_apart)
+returns-then-differ c =
+    let p = c.in-Some-Some-Some-Some.ensures.item.3 in
+    let q = c.in-Some-Some-Some-Some.ensures'.item.3 in
+    λ t. begin_apart _ _ _ _ _ _ _ c.from.ensures c.from-2.ensures (c.differ.ensures t) p.0 q.0 (p.1 0) (q.1 0)
 
-pub returns : goal.returns
-returns c = search (rules, end_apart)
+pub returns-else-differ : goal.returns-else-differ
+returns-else-differ c =
+    let p = c.in-Some-Some-Some-Some.ensures''.item.3 in
+    let q = c.in-Some-Some-Some-Some.ensures'''.item.3 in
+    λ t. end_apart _ _ _ _ _ _ _ c.from-else-differ.ensures c.from-else-differ-2.ensures (c.differ-else-differ.ensures t) p.0 q.0 (p.1 0) (q.1 0)

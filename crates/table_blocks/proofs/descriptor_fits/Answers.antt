@@ -1,13 +1,13 @@
--- Each test that fails decides, and the unused words once none did.
-use Rattle.std.proofs.Common.{rules}
-use Rattle.table_blocks.proofs.Laws.{descriptor_context_no, descriptor_grant_no, descriptor_tail_decides}
+-- The tests, one after another.
+use Rattle.std.proofs.Common.{arith}
+use Rattle.std.proofs.lemmas.Grind.{common_steps}
+use Rattle.paper.specs.Table.{descriptor_fits}
 use Rattle.table_blocks.proofs.descriptor_fits.Goals as goal
 
-pub returns-then-not-context_fits : goal.returns-then-not-context_fits
-returns-then-not-context_fits c = search (rules, descriptor_context_no)
+pub returns-then-grant_fits : goal.returns-then-grant_fits
+unfolding descriptor_fits
+returns-then-grant_fits c = grind (arith, common_steps)
 
-pub returns-then-not-grant_fits : goal.returns-then-not-grant_fits
-returns-then-not-grant_fits c = search (rules, descriptor_grant_no)
-
-pub returns : goal.returns
-returns c = search (rules, descriptor_tail_decides)
+pub returns-else-grant_fits : goal.returns-else-grant_fits
+unfolding descriptor_fits
+returns-else-grant_fits c = grind (arith, common_steps)

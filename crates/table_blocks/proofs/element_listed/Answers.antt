@@ -6,5 +6,5 @@ use Rattle.table_blocks.proofs.element_listed.Goals as goal
 pub returns-then-w-lt-FIRST_DOMAIN : goal.returns-then-w-lt-FIRST_DOMAIN
 returns-then-w-lt-FIRST_DOMAIN c = search (rules, listed_function)
 
-pub returns : goal.returns
-returns c = search (rules, listed_domain)
+pub returns-else-w-lt-FIRST_DOMAIN : goal.returns-else-w-lt-FIRST_DOMAIN
+returns-else-w-lt-FIRST_DOMAIN c = search (rules, listed_domain)

@@ -1,16 +1,9 @@
--- The loop: every element so far fits.
-use Rattle.std.proofs.Common.{rules}
-use Rattle.laws.proofs.Tests.{up_to_none, tests_again, test_fails, tests_done}
+-- The chain over the places is the test of each.
+use Rattle.std.proofs.Common.{rules, tests}
+use Rattle.paper.specs.Limits.{most_elements}
+use Rattle.laws.proofs.Mirrors.{below_tested}
+use Rattle.table_blocks.specs.Parts.{element_fits}
 use Rattle.table_blocks.proofs.elements_fit.Goals as goal
 
-pub loop-i-init : goal.loop-i-init
-loop-i-init c = search (rules, up_to_none)
-
-pub returns-then-not-element_fits : goal.returns-then-not-element_fits
-returns-then-not-element_fits c = search (rules, test_fails)
-
-pub loop-i-preserved : goal.loop-i-preserved
-loop-i-preserved c = search (rules, tests_again)
-
 pub returns : goal.returns
-returns c = search (rules, tests_done)
+returns c = below_tested (element_fits c.args.t.now c.args.at) most_elements c.all.ensures.ran (cc) (λ x b q k. search (rules, tests))

@@ -1,20 +1,19 @@
--- The loop: every word of the set so far fits.
-use Rattle.std.proofs.Common.{rules}
-use Rattle.laws.proofs.Tests.{up_to_none, tests_again}
-use Rattle.table_blocks.proofs.Laws.{neither_every_nor_set, set_word_no, grant_holds}
+-- The first word, and then the chain over the words of the set.
+use Rattle.std.proofs.Common.{rules, tests, arith, ◌≡◌}
+use Rattle.std.proofs.lemmas.Grind.{common_steps}
+use Rattle.paper.specs.Common.{up_to}
+use Rattle.paper.specs.Table.{grant_fits, set_size}
+use Rattle.laws.proofs.Mirrors.{below_tested}
+use Rattle.table_blocks.specs.Parts.{set_word_fits}
 use Rattle.table_blocks.proofs.grant_fits.Goals as goal
 
-pub returns-then-word-gt-EVERY : goal.returns-then-word-gt-EVERY
-returns-then-word-gt-EVERY c = search (rules, neither_every_nor_set)
+pub returns-then-word-le-EVERY : goal.returns-then-word-le-EVERY
+unfolding grant_fits
+returns-then-word-le-EVERY c =
+    let fits = set_word_fits c.args.t.now c.args.at c.args.domains in
+    let set : c.all.result ≡ up_to fits set_size = below_tested fits set_size c.all.ensures.ran (cc) (λ x b q k. search (rules, tests)) in
+    grind (arith, common_steps, set)
 
-pub loop-j-init : goal.loop-j-init
-loop-j-init c = search (rules, up_to_none)
-
-pub returns-then-not-set_word_fits : goal.returns-then-not-set_word_fits
-returns-then-not-set_word_fits c = search (rules, set_word_no)
-
-pub loop-j-preserved : goal.loop-j-preserved
-loop-j-preserved c = search (rules, tests_again)
-
-pub returns : goal.returns
-returns c = search (rules, grant_holds)
+pub returns-else-word-le-EVERY : goal.returns-else-word-le-EVERY
+unfolding grant_fits
+returns-else-word-le-EVERY c = grind (arith, common_steps)

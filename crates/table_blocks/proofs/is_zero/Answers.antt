@@ -1,19 +1,10 @@
--- The loop: every word so far is zero.
-use Rattle.std.proofs.Common.{rules}
+-- The chain over the part is the test of each word.
+use Rattle.std.proofs.Common.{rules, tests, refl}
+use Rattle.std.specs.Prelude.{nat_eq}
 use Rattle.paper.specs.Table.{zeros}
-use Rattle.table_blocks.proofs.Laws.{not_zero, zero_again}
-use Rattle.laws.proofs.Tests.{up_to_none, tests_done}
+use Rattle.laws.proofs.Mirrors.{part_tested}
 use Rattle.table_blocks.proofs.is_zero.Goals as goal
-
-pub loop-i-init : goal.loop-i-init
-loop-i-init c = search (rules, up_to_none)
-
-pub returns-then-word-ne0 : goal.returns-then-word-ne0
-returns-then-word-ne0 c = search (rules, not_zero)
-
-pub loop-i-preserved : goal.loop-i-preserved
-loop-i-preserved c = search (rules, zero_again)
 
 pub returns : goal.returns
 unfolding zeros
-returns c = search (rules, tests_done)
+returns c = let a = c.args in part_tested (λ w. nat_eq w 0) a.t.now _ a.at a.n refl c.part.ensures c.all.ensures.ran (cc) (λ x b q k. search (rules, tests))

@@ -1,19 +1,11 @@
--- The loop: every word so far fits.
-use Rattle.std.proofs.Common.{rules}
+-- The chain over the places is the test of each.
+use Rattle.std.proofs.Common.{rules, tests}
+use Rattle.paper.specs.Limits.{most_members}
 use Rattle.paper.specs.Table.{members_fit}
-use Rattle.laws.proofs.Tests.{up_to_none, tests_again, test_fails, tests_done}
+use Rattle.laws.proofs.Mirrors.{below_tested}
+use Rattle.table_blocks.specs.Parts.{member_fits}
 use Rattle.table_blocks.proofs.members_fit.Goals as goal
-
-pub loop-i-init : goal.loop-i-init
-loop-i-init c = search (rules, up_to_none)
-
-pub returns-then-not-member_fits : goal.returns-then-not-member_fits
-unfolding members_fit
-returns-then-not-member_fits c = search (rules, test_fails)
-
-pub loop-i-preserved : goal.loop-i-preserved
-loop-i-preserved c = search (rules, tests_again)
 
 pub returns : goal.returns
 unfolding members_fit
-returns c = search (rules, tests_done)
+returns c = let a = c.args in below_tested (member_fits a.t.now a.at a.members a.domains) most_members c.all.ensures.ran (cc) (λ x b q k. search (rules, tests))

@@ -1,16 +1,13 @@
--- Each test that fails decides, and the entries once none did.
-use Rattle.std.proofs.Common.{rules}
-use Rattle.table_test.proofs.Laws.{head_spare_used, objects_no, functions_no, entries_decide}
+-- The tests, one after another.
+use Rattle.std.proofs.Common.{arith}
+use Rattle.std.proofs.lemmas.Grind.{common_steps}
+use Rattle.table_blocks.specs.Parts.{blocks_fit}
 use Rattle.table_test.proofs.blocks_fit.Goals as goal
 
-pub returns-then-not-is_zero : goal.returns-then-not-is_zero
-returns-then-not-is_zero c = search (rules, head_spare_used)
+pub returns-then-members_fit-2 : goal.returns-then-members_fit-2
+unfolding blocks_fit
+returns-then-members_fit-2 c = grind (arith, common_steps)
 
-pub returns-then-not-members_fit : goal.returns-then-not-members_fit
-returns-then-not-members_fit c = search (rules, objects_no)
-
-pub returns-then-not-members_fit-2 : goal.returns-then-not-members_fit-2
-returns-then-not-members_fit-2 c = search (rules, functions_no)
-
-pub returns : goal.returns
-returns c = search (rules, entries_decide)
+pub returns-else-members_fit-2 : goal.returns-else-members_fit-2
+unfolding blocks_fit
+returns-else-members_fit-2 c = grind (arith, common_steps)

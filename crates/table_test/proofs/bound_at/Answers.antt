@@ -1,10 +1,13 @@
--- A variable is looked for in the entry; what is none is bound.
-use Rattle.std.proofs.Common.{rules}
-use Rattle.table_test.proofs.Laws.{variable_bound, no_variable}
+-- The tests, one after another.
+use Rattle.std.proofs.Common.{arith}
+use Rattle.std.proofs.lemmas.Grind.{common_steps}
+use Rattle.paper.specs.Table.{bound_at}
 use Rattle.table_test.proofs.bound_at.Goals as goal
 
-pub returns-then-word-eq-VARIABLE : goal.returns-then-word-eq-VARIABLE
-returns-then-word-eq-VARIABLE c = search (rules, variable_bound)
+pub returns-then-word-ne-VARIABLE : goal.returns-then-word-ne-VARIABLE
+unfolding bound_at
+returns-then-word-ne-VARIABLE c = grind (arith, common_steps)
 
-pub returns : goal.returns
-returns c = search (rules, no_variable)
+pub returns-else-word-ne-VARIABLE : goal.returns-else-word-ne-VARIABLE
+unfolding bound_at
+returns-else-word-ne-VARIABLE c = grind (arith, common_steps)

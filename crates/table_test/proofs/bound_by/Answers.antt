@@ -1,13 +1,13 @@
--- Key by key.
-use Rattle.std.proofs.Common.{rules}
-use Rattle.table_test.proofs.Laws.{uid_unbound, gid_unbound, namespace_decides_bound}
+-- The tests, one after another.
+use Rattle.std.proofs.Common.{arith}
+use Rattle.std.proofs.lemmas.Grind.{common_steps}
+use Rattle.paper.specs.Table.{bound_by}
 use Rattle.table_test.proofs.bound_by.Goals as goal
 
-pub returns-then-not-bound_at : goal.returns-then-not-bound_at
-returns-then-not-bound_at c = search (rules, uid_unbound)
+pub returns-then-bound_at-2 : goal.returns-then-bound_at-2
+unfolding bound_by
+returns-then-bound_at-2 c = grind (arith, common_steps)
 
-pub returns-then-not-bound_at-2 : goal.returns-then-not-bound_at-2
-returns-then-not-bound_at-2 c = search (rules, gid_unbound)
-
-pub returns : goal.returns
-returns c = search (rules, namespace_decides_bound)
+pub returns-else-bound_at-2 : goal.returns-else-bound_at-2
+unfolding bound_by
+returns-else-bound_at-2 c = grind (arith, common_steps)

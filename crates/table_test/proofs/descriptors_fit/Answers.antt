@@ -1,16 +1,13 @@
--- The loop: every block so far fits.
-use Rattle.std.proofs.Common.{rules}
-use Rattle.laws.proofs.Tests.{up_to_none, tests_again, test_fails, tests_done}
+-- The chain over the places is the test of each.
+use Rattle.std.proofs.Common.{rules, tests}
+use Rattle.paper.specs.Limits.{most_descriptors}
+use Rattle.paper.specs.Table.{descriptors_fit}
+use Rattle.laws.proofs.Mirrors.{below_tested}
+use Rattle.table_blocks.specs.Parts.{descriptor_block_fits}
 use Rattle.table_test.proofs.descriptors_fit.Goals as goal
 
-pub loop-d-init : goal.loop-d-init
-loop-d-init c = search (rules, up_to_none)
-
-pub returns-then-not-descriptor_block_fits : goal.returns-then-not-descriptor_block_fits
-returns-then-not-descriptor_block_fits c = search (rules, test_fails)
-
-pub loop-d-preserved : goal.loop-d-preserved
-loop-d-preserved c = search (rules, tests_again)
-
 pub returns : goal.returns
-returns c = search (rules, tests_done)
+unfolding descriptors_fit
+returns c =
+    let told = below_tested (descriptor_block_fits c.args.t.now c.first_descriptor-descriptors.result) most_descriptors c.all.ensures.ran (cc) (λ x b q k. search (rules, tests)) in
+    rw (← c.count.ensures.0, ← c.first_descriptor-descriptors.ensures.0) told

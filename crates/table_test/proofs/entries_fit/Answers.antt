@@ -1,19 +1,11 @@
--- The loop: every block so far fits.
-use Rattle.std.proofs.Common.{rules}
+-- The chain over the places is the test of each.
+use Rattle.std.proofs.Common.{rules, tests}
+use Rattle.paper.specs.Limits.{most_entries}
 use Rattle.paper.specs.Table.{entries_fit}
-use Rattle.laws.proofs.Tests.{up_to_none, tests_again, test_fails, tests_done}
+use Rattle.laws.proofs.Mirrors.{below_tested}
+use Rattle.table_blocks.specs.Parts.{entry_block_fits}
 use Rattle.table_test.proofs.entries_fit.Goals as goal
-
-pub loop-k-init : goal.loop-k-init
-loop-k-init c = search (rules, up_to_none)
-
-pub returns-then-not-entry_block_fits : goal.returns-then-not-entry_block_fits
-unfolding entries_fit
-returns-then-not-entry_block_fits c = search (rules, test_fails)
-
-pub loop-k-preserved : goal.loop-k-preserved
-loop-k-preserved c = search (rules, tests_again)
 
 pub returns : goal.returns
 unfolding entries_fit
-returns c = search (rules, tests_done)
+returns c = below_tested (entry_block_fits c.args.t.now) most_entries c.all.ensures.ran (cc) (λ x b q k. search (rules, tests))

@@ -1,17 +1,10 @@
--- The loop: no entry so far has the principal.
-use Rattle.std.proofs.Common.{rules}
-use Rattle.laws.proofs.Tests.{up_to_none, tests_done}
-use Rattle.table_test.proofs.Laws.{twin_found, no_twin_yet}
+-- The chain over the entries before is the test of each.
+use Rattle.std.proofs.Common.{rules, tests}
+use Rattle.paper.specs.Table.{one_principal}
+use Rattle.laws.proofs.Mirrors.{below_tested, same_slices}
+use Rattle.table_blocks.specs.Parts.{differs_from}
 use Rattle.table_test.proofs.principal_is_new.Goals as goal
 
-pub loop-j-init : goal.loop-j-init
-loop-j-init c = search (rules, up_to_none)
-
-pub returns-then-one_principal : goal.returns-then-one_principal
-returns-then-one_principal c = search (rules, twin_found)
-
-pub loop-j-preserved : goal.loop-j-preserved
-loop-j-preserved c = search (rules, no_twin_yet)
-
 pub returns : goal.returns
-returns c = search (rules, tests_done)
+unfolding one_principal
+returns c = below_tested (differs_from c.args.t.now c.args.k) c.args.k c.all.ensures.ran (cc) (λ x b q k. search (rules, tests, same_slices))

@@ -1,19 +1,14 @@
--- Each test that fails decides, and the rest once none did.
-use Rattle.std.proofs.Common.{rules}
-use Rattle.table_test.proofs.Laws.{mark_missing, counts_no, blocks_no, entries_few, rest_decides}
+-- The tests, one after another.
+use Rattle.std.proofs.Common.{arith}
+use Rattle.std.proofs.lemmas.Grind.{common_steps}
+use Rattle.table_test.proofs.Laws.{entries_few, whole}
 use Rattle.table_test.proofs.words_fit.Goals as goal
 
-pub returns-then-word-ne-MARK : goal.returns-then-word-ne-MARK
-returns-then-word-ne-MARK c = search (rules, mark_missing)
-
-pub returns-then-not-counts_fit : goal.returns-then-not-counts_fit
-returns-then-not-counts_fit c = search (rules, counts_no)
-
-pub returns-then-not-blocks_fit : goal.returns-then-not-blocks_fit
-returns-then-not-blocks_fit c = search (rules, blocks_no)
-
 pub rest_fits-requires : goal.rest_fits-requires
-rest_fits-requires c = search (rules, entries_few)
+rest_fits-requires c = grind (arith, common_steps, entries_few)
 
-pub returns : goal.returns
-returns c = search (rules, rest_decides)
+pub returns-then-blocks_fit : goal.returns-then-blocks_fit
+returns-then-blocks_fit c = grind (arith, common_steps, whole c.args.t.now)
+
+pub returns-else-blocks_fit : goal.returns-else-blocks_fit
+returns-else-blocks_fit c = grind (arith, common_steps, whole c.args.t.now)

@@ -1,7 +1,10 @@
--- One expression, which is the definition opened.
+-- One look, which is right by the test computed over the whole table.
 use Rattle.std.proofs.Common.{rules}
-use Rattle.text_bytes.proofs.Laws.{name_byte_is}
+use Rattle.paper.specs.Common.{any_of, up_to}
+use Rattle.paper.specs.Scalars.{is_letter, is_digit, name_byte}
+use Rattle.text_bytes.proofs.Table.{look_marked}
 use Rattle.text_bytes.proofs.name_byte.Goals as goal
 
 pub returns : goal.returns
-returns c = search (rules, name_byte_is)
+unfolding name_byte is_letter is_digit any_of up_to
+returns c = search (rules, look_marked name_byte)

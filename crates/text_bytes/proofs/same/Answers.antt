@@ -1,16 +1,7 @@
--- The loop: what is left of the two stretches is the same exactly when they are.
-use Rattle.std.proofs.Common.{rules}
-use Rattle.laws.proofs.Tests.{same_lengths, same_differs, same_again, same_ends}
+-- `==` of two slices is the paper's test.
+use Rattle.std.proofs.Common.{◌∙◌}
+use Rattle.laws.proofs.Library.{list_same}
 use Rattle.text_bytes.proofs.same.Goals as goal
 
-pub returns-then-x-y : goal.returns-then-x-y
-returns-then-x-y c = search (rules, same_lengths)
-
-pub returns-then-x-i : goal.returns-then-x-i
-returns-then-x-i c = search (rules, same_differs)
-
-pub loop-i-preserved : goal.loop-i-preserved
-loop-i-preserved c = search (rules, same_again)
-
 pub returns : goal.returns
-returns c = search (rules, same_ends)
+returns c = c.eq.ensures ∙ list_same c.args.x.now c.args.y.now

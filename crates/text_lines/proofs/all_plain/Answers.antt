@@ -3,11 +3,11 @@ use Rattle.std.proofs.Common.{rules}
 use Rattle.text_lines.proofs.Laws.{plain_not, right_again, right_done}
 use Rattle.text_lines.proofs.all_plain.Goals as goal
 
-pub returns-then-text-size-eq-CARRIAGE_RETURN : goal.returns-then-text-size-eq-CARRIAGE_RETURN
-returns-then-text-size-eq-CARRIAGE_RETURN c = search (rules, plain_not)
+pub returns-in-13 : goal.returns-in-13
+returns-in-13 c = search (rules, plain_not)
 
-pub loop-i-preserved : goal.loop-i-preserved
-loop-i-preserved c = search (rules, right_again)
+pub loop-b-preserved : goal.loop-b-preserved
+loop-b-preserved c = search (rules, right_again)
 
 pub returns : goal.returns
 returns c = search (rules, right_done)

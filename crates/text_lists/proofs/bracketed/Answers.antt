@@ -3,8 +3,8 @@ use Rattle.std.proofs.Common.{rules}
 use Rattle.text_lists.proofs.Laws.{not_bracketed, bracketed_is}
 use Rattle.text_lists.proofs.bracketed.Goals as goal
 
-pub returns-then-v-lt2 : goal.returns-then-v-lt2
-returns-then-v-lt2 c = search (rules, not_bracketed)
+pub returns-in_default : goal.returns-in_default
+returns-in_default c = search (rules, not_bracketed)
 
-pub returns : goal.returns
-returns c = search (rules, bracketed_is)
+pub returns-in-len2-up : goal.returns-in-len2-up
+returns-in-len2-up c = search (rules, bracketed_is)

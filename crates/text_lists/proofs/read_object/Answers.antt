@@ -10,8 +10,8 @@ returns-then-not-bar_stands c = search (rules, object_no_sort)
 pub overflow_add-path : goal.overflow_add-path
 overflow_add-path c = search (rules, behind_bar_fits)
 
-pub part_end-path_end-requires-clause-at_in_bounds : goal.part_end-path_end-requires-clause-at_in_bounds
-part_end-path_end-requires-clause-at_in_bounds c = search (rules, behind_bar_to)
+pub part_end-path_end-requires : goal.part_end-path_end-requires
+part_end-path_end-requires c = search (rules, behind_bar_to)
 
 pub returns-then-not-bar_stands-2 : goal.returns-then-not-bar_stands-2
 returns-then-not-bar_stands-2 c = search (rules, object_no_path)
@@ -19,8 +19,8 @@ returns-then-not-bar_stands-2 c = search (rules, object_no_path)
 pub overflow_add-line : goal.overflow_add-line
 overflow_add-line c = search (rules, behind_bar_fits)
 
-pub part_end-line_end-requires-clause-at_in_bounds : goal.part_end-line_end-requires-clause-at_in_bounds
-part_end-line_end-requires-clause-at_in_bounds c = search (rules, behind_bar_to)
+pub part_end-line_end-requires : goal.part_end-line_end-requires
+part_end-line_end-requires c = search (rules, behind_bar_to)
 
 pub returns-then-not-bar_stands-3 : goal.returns-then-not-bar_stands-3
 returns-then-not-bar_stands-3 c = search (rules, object_no_line)
@@ -28,8 +28,8 @@ returns-then-not-bar_stands-3 c = search (rules, object_no_line)
 pub overflow_add-name : goal.overflow_add-name
 overflow_add-name c = search (rules, behind_bar_fits)
 
-pub part_end-end-requires-clause-at_in_bounds : goal.part_end-end-requires-clause-at_in_bounds
-part_end-end-requires-clause-at_in_bounds c = behind_bar_to _ _ _ c.bar_stands-3.ensures c.if-not-bar_stands-3.false-raw
+pub part_end-end-requires : goal.part_end-end-requires
+part_end-end-requires c = behind_bar_to _ _ _ c.bar_stands-3.ensures c.if-not-bar_stands-3.false-raw
 
 pub returns-then-not-element_ends : goal.returns-then-not-element_ends
 returns-then-not-element_ends c = search (rules, object_no_end)

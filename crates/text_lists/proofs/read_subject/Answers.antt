@@ -9,8 +9,8 @@ returns-then-not-bar_stands c = search (rules, subject_no_bar)
 pub overflow_add-name : goal.overflow_add-name
 overflow_add-name c = search (rules, behind_bar_fits)
 
-pub part_end-end-requires-clause-at_in_bounds : goal.part_end-end-requires-clause-at_in_bounds
-part_end-end-requires-clause-at_in_bounds c = search (rules, behind_bar_to)
+pub part_end-end-requires : goal.part_end-end-requires
+part_end-end-requires c = search (rules, behind_bar_to)
 
 pub returns-then-not-element_ends : goal.returns-then-not-element_ends
 returns-then-not-element_ends c = search (rules, subject_no_end)

@@ -3,11 +3,11 @@ use Rattle.std.proofs.Common.{rules}
 use Rattle.text_page.proofs.Walking.{end_empty, end_right, end_missing}
 use Rattle.text_page.proofs.at_end.Goals as goal
 
-pub returns-then-is_left_empty : goal.returns-then-is_left_empty
-returns-then-is_left_empty c = search (rules, end_empty)
+pub returns-in_err-above_is_full : goal.returns-in_err-above_is_full
+returns-in_err-above_is_full c = search (rules, end_empty)
 
-pub returns-then-last : goal.returns-then-last
-returns-then-last c = search (rules, end_right)
+pub returns-then-row_at : goal.returns-then-row_at
+returns-then-row_at c = search (rules, end_right)
 
 pub returns : goal.returns
 returns c = search (rules, end_missing)

@@ -4,8 +4,8 @@ use Rattle.text_repeats.proofs.Laws.{stands_none, stands_here, stands_later}
 use Rattle.text_lists.proofs.Walk.{found_from, found_to_lem, found_less, spaced_found}
 use Rattle.text_repeats.proofs.stands_from.Goals as goal
 
-pub returns-in-NoneLeft : goal.returns-in-NoneLeft
-returns-in-NoneLeft c = search (rules, stands_none)
+pub returns : goal.returns
+returns c = search (rules, stands_none)
 
 pub slice_bounds-same-count : goal.slice_bounds-same-count
 slice_bounds-same-count c = search (rules, found_from)
@@ -19,8 +19,8 @@ slice_bounds-same-end c = search (rules, found_to_lem)
 pub returns-then-same : goal.returns-then-same
 returns-then-same c = search (rules, stands_here)
 
-pub loop-end-smaller : goal.loop-end-smaller
-loop-end-smaller c = search (rules, found_less)
+pub loop-element-smaller : goal.loop-element-smaller
+loop-element-smaller c = search (rules, found_less)
 
-pub loop-end-preserved : goal.loop-end-preserved
-loop-end-preserved c = (search (rules, spaced_found), search (rules, stands_later))
+pub loop-element-preserved : goal.loop-element-preserved
+loop-element-preserved c = (search (rules, spaced_found), search (rules, stands_later))

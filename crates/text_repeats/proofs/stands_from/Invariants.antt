@@ -4,8 +4,8 @@ use Rattle.paper.specs.Common.{among}
 use Rattle.text_lists.specs.Walk.{elements_left, SpacedFrom}
 use Rattle.text_repeats.proofs.stands_from.Given as goal
 
-abbrev pub invariant-loop-end : goal.invariant-loop-end
-invariant-loop-end l = SpacedFrom l.s l.at × (among l.x (elements_left l.s l.at) ≡ among l.x (elements_left l.s l.from))
+abbrev pub invariant-loop-element : goal.invariant-loop-element
+invariant-loop-element l = SpacedFrom l.s l.at × (among l.x (elements_left l.s l.at) ≡ among l.x (elements_left l.s l.from))
 
-abbrev pub decreases-loop-end : goal.decreases-loop-end
-decreases-loop-end l = length l.s + 3 - l.at
+abbrev pub decreases-loop-element : goal.decreases-loop-element
+decreases-loop-element l = length l.s + 3 - l.at

@@ -3,5 +3,5 @@ use Rattle.std.proofs.Common.{rules}
 use Rattle.text_repeats.proofs.Laws.{place_word}
 use Rattle.text_repeats.proofs.write_places.Goals as goal
 
-pub overflow_cast-places : goal.overflow_cast-places
-overflow_cast-places c = search (rules, place_word)
+pub overflow_cast-place : goal.overflow_cast-place
+overflow_cast-place c = search (rules, place_word)

@@ -4,8 +4,8 @@ use Rattle.text_lists.proofs.Laws.{some_bracket, closed_behind_open}
 use Rattle.file_fields.proofs.Valued.{inside_list, inside_none}
 use Rattle.file_fields.proofs.values.inside.Goals as goal
 
-pub overflow_sub-last : goal.overflow_sub-last
-overflow_sub-last c = search (rules, some_bracket)
+pub overflow_sub-result : goal.overflow_sub-result
+overflow_sub-result c = search (rules, some_bracket)
 
 pub slice_bounds-result-count : goal.slice_bounds-result-count
 slice_bounds-result-count c = search (rules, closed_behind_open)
@@ -16,5 +16,5 @@ slice_bounds-result-start c = search (rules, closed_behind_open)
 pub returns-then-bracketed : goal.returns-then-bracketed
 returns-then-bracketed c = search (rules, inside_list)
 
-pub returns : goal.returns
-returns c = search (rules, inside_none)
+pub returns-else-bracketed : goal.returns-else-bracketed
+returns-else-bracketed c = search (rules, inside_none)

@@ -5,7 +5,7 @@ use Rattle.file_names.proofs.Entering.{no_names, line_first, named_room, named_s
 use Rattle.file_names.proofs.indexes.index_all.Goals as goal
 
 pub loop-i-init : goal.loop-i-init
-loop-i-init c = (search rules, search rules, search (rules, no_names), search (rules, line_first))
+loop-i-init c = (search rules, search (rules, no_names), search (rules, line_first))
 
 pub enter_field-requires-clause-i_in_bounds : goal.enter_field-requires-clause-i_in_bounds
 enter_field-requires-clause-i_in_bounds c = search (rules, named_room)
@@ -16,15 +16,11 @@ enter_field-requires-clause-i_value c = search (rules, named_spacing)
 pub enter_field-requires-clause-room : goal.enter_field-requires-clause-room
 enter_field-requires-clause-room c = search (rules, field_room (named c.args.naming))
 
-pub line_of-requires : goal.line_of-requires
-line_of-requires c = search (rules, named_room)
-
-pub returns-in-Twice : goal.returns-in-Twice
-returns-in-Twice c = search (rules, told_twice)
+pub returns-in-None : goal.returns-in-None
+returns-in-None c = search (rules, told_twice)
 
 pub loop-i-preserved : goal.loop-i-preserved
 loop-i-preserved c = (
-  search rules,
   search rules,
   index_on (named c.args.naming) _ _ _ _ _ c.enter_field.ensures.entered_as _ (search rules),
   search (

@@ -3,8 +3,5 @@ use Rattle.std.proofs.Common.{◌≡◌, ◌-◌, length, replicate, drop}
 use Rattle.file_names.specs.Separate.{separate}
 use Rattle.file_names.proofs.lists.distinct.Given as goal
 
-abbrev pub invariant-loop-i : goal.invariant-loop-i
-invariant-loop-i l = (length l.seen ≡ 8) × (separate l.seen (drop l.i l.words) ≡ separate (replicate 8 0) l.words)
-
-abbrev pub decreases-loop-i : goal.decreases-loop-i
-decreases-loop-i l = length l.words - l.i
+abbrev pub invariant-loop-word : goal.invariant-loop-word
+invariant-loop-word l = (length l.seen ≡ 8) × (separate l.seen (drop l.word-index l.words) ≡ separate (replicate 8 0) l.words)

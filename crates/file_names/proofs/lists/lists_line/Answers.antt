@@ -1,6 +1,6 @@
 -- The words tell most files; where they say nothing, the scan over the fields.
 use Rattle.std.proofs.Common.{rules}
-use Rattle.file_names.proofs.Entering.{its_room, its_spacing}
+use Rattle.file_names.proofs.Entering.{its_spacing}
 use Rattle.file_names.proofs.Scanned.{lists_once, scan_here, scan_on, scan_none}
 use Rattle.file_names.proofs.lists.lists_line.Goals as goal
 
@@ -9,9 +9,6 @@ returns-then-lists_distinct c = search (rules, lists_once)
 
 pub has_twice-requires : goal.has_twice-requires
 has_twice-requires c = search (rules, its_spacing)
-
-pub line_of-requires : goal.line_of-requires
-line_of-requires c = search (rules, its_room)
 
 pub returns-then-has_twice : goal.returns-then-has_twice
 returns-then-has_twice c = search (rules, scan_here)

@@ -3,8 +3,5 @@ use Rattle.std.proofs.Common.{◌≡◌, ◌-◌, length, drop}
 use Rattle.file_names.specs.Below.{all_below}
 use Rattle.file_names.proofs.unknown.all_below.Given as goal
 
-abbrev pub invariant-loop-i : goal.invariant-loop-i
-invariant-loop-i l = all_below l.limit (drop l.i l.words) ≡ all_below l.limit l.words
-
-abbrev pub decreases-loop-i : goal.decreases-loop-i
-decreases-loop-i l = length l.words - l.i
+abbrev pub invariant-loop-word : goal.invariant-loop-word
+invariant-loop-word l = all_below l.limit (drop l.word-index l.words) ≡ all_below l.limit l.words

@@ -1,9 +1,0 @@
--- A byte is below 256.
-use Rattle.std.proofs.Common.{arith, refl}
-use Rattle.file_entries.proofs.byte_at.Goals as goal
-
-pub overflow_cast-result : goal.overflow_cast-result
-overflow_cast-result c = omega (arith, c.shared_slice_known-1.given c.args.i)
-
-pub returns : goal.returns
-returns c = (refl, omega (arith, c.shared_slice_known-1.given c.args.i))

@@ -1,0 +1,11 @@
+-- One look, which is right by the test computed over the whole table.
+use Rattle.std.proofs.Common.{rules}
+use Rattle.paper.specs.Common.{any_of, up_to}
+use Rattle.paper.specs.Scalars.{identifier_byte}
+use Rattle.text_bytes.specs.Classes.{part_of}
+use Rattle.text_bytes.proofs.Table.{look_marked}
+use Rattle.text_bytes.proofs.OfIdentifierPartBytes.has.Goals as goal
+
+pub returns : goal.returns
+unfolding identifier_byte any_of up_to
+returns c = search (rules, look_marked (part_of identifier_byte))
