@@ -289,7 +289,7 @@ fn replay<F: Fn(&mut Bytes, &mut Tally) -> io::Result<()>>(
     println!(rt; "{} {done}, {} answers differ", tally.cases, tally.differ)
 }
 
-// The same, where a case has one answer: whether it is the one stored.
+// Every case of a file that has one answer: whether it is the one stored.
 fn replay_answers<F: Fn(&mut Bytes) -> bool>(
     rt: &HostRuntime,
     room: &mut [u8],
