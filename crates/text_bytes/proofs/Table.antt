@@ -1,29 +1,48 @@
 -- A table of bytes: one test, computed over all of it, gives its rule at each byte.
 use mathlib.Core.Path.{◌≡◌, refl}
-use mathlib.Core.Bool.{Bool, true, false, not, beq}
+use mathlib.Core.Bool.{Bool, true, false, cond, not, ◌&&◌}
 use mathlib.Core.List.{List}
 use Prim.Native.Nat.{ℕ, suc, ◌+◌, ◌<◌, ◌≤◌}
 use native.Mathlib.Omega.{arith}
 use Prim.Native.Char.{code}
 use lib.Dec.{eqb}
 use lib.ListN.{length, get_or, drop, drop_of_length-le}
+use borrow.Author.Tests.{eqb-true}
 use Rattle.paper.specs.Common.{up_to}
+use Rattle.paper.specs.Text.{bar}
 use Rattle.laws.proofs.Tests.{up_to_at}
 use Rattle.laws.proofs.Places.{drop_more}
-use Rattle.text_bytes.specs.Classes.{run}
+use Rattle.text_bytes.specs.Classes.{part_of, run}
+use Rattle.text_bytes.specs.Marks.{mark, part_mark, Marks}
 
-is_beq : (a b : Bool) → beq a b ≡ true → a ≡ b
-is_beq true true e = refl
-is_beq false false e = refl
-is_beq true false e = cc
-is_beq false true e = cc
+module _ (mark_of : ℕ → ℕ) (table : List ℕ) where
+  pub marks : length table ≡ 256 → up_to (λ b. eqb (get_or table b 0) (mark_of b)) 256 ≡ true → Marks mark_of table
+  marks l h = record { size = l; right = λ b below. eqb-true (get_or table b 0) (mark_of b) (up_to_at (λ b. eqb (get_or table b 0) (mark_of b)) 256 h b below) }
+
+-- what the code asks of a mark
+mark_is : (t : Bool) → eqb (mark t) (code "1") ≡ t
+mark_is true = refl
+mark_is false = refl
+
+part_is : (t p : Bool) → eqb (cond (t && p) (code "2") (mark t)) (code "1") ≡ (t && not p)
+part_is true true = refl
+part_is true false = refl
+part_is false p = refl
+
+passes_is : (t p : Bool) → not (eqb (cond (t && p) (code "2") (mark t)) (code "0")) ≡ t
+passes_is true true = refl
+passes_is true false = refl
+passes_is false p = refl
 
 module _ (f : ℕ → Bool) (table : List ℕ) (b : ℕ) where
-  pub look_marked : up_to (λ b. beq (eqb (get_or table b 0) (code "1")) (f b)) 256 ≡ true → b < 256 → eqb (get_or table b 0) (code "1") ≡ f b
-  look_marked h below = is_beq _ _ (up_to_at (λ b. beq (eqb (get_or table b 0) (code "1")) (f b)) 256 h b below)
+  pub look_marked : Marks (λ b. mark (f b)) table → b < 256 → eqb (get_or table b 0) (code "1") ≡ f b
+  look_marked m below = rw (m.right b below) (mark_is (f b))
 
-  pub look_unlike : up_to (λ b. beq (not (eqb (get_or table b 0) (code "0"))) (f b)) 256 ≡ true → b < 256 → not (eqb (get_or table b 0) (code "0")) ≡ f b
-  look_unlike h below = is_beq _ _ (up_to_at (λ b. beq (not (eqb (get_or table b 0) (code "0"))) (f b)) 256 h b below)
+  pub look_part : Marks (part_mark f) table → b < 256 → eqb (get_or table b 0) (code "1") ≡ part_of f b
+  look_part m below = rw (m.right b below) (part_is (f b) (eqb b bar))
+
+  pub look_unlike : Marks (part_mark f) table → b < 256 → not (eqb (get_or table b 0) (code "0")) ≡ f b
+  look_unlike m below = rw (m.right b below) (passes_is (f b) (eqb b bar))
 
 -- ---- the loop: the bytes that pass end from i on where they end from `at` on
 

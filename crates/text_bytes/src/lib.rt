@@ -67,7 +67,7 @@ pub fn is_digit(b: u8) -> bool
 }
 
 // Which bytes may stand in an identifier, sixteen a row: `0` for those that may not, `2` for the one that stands between its parts.
-static IDENTIFIER: [u8; 256] = *b"\
+pub static IDENTIFIER: [u8; 256] = *b"\
     0000000000000000\
     0000000000000000\
     0100111011110111\
@@ -86,7 +86,7 @@ static IDENTIFIER: [u8; 256] = *b"\
     0000000000000000";
 
 // Which bytes may stand in a name, which is one part.
-static NAME: [u8; 256] = *b"\
+pub static NAME: [u8; 256] = *b"\
     0000000000000000\
     0000000000000000\
     0000000000000010\

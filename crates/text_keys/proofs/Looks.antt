@@ -9,13 +9,14 @@ use native.Mathlib.Omega.{arith}
 use lib.Dec.{eqb}
 use lib.ListN.{length, get_or, take, drop, length-drop, drop_of_length-le}
 use lib.Seq.{take_all, drop-cons}
-use borrow.Author.Tests.{eq-eqb, ne_eqb}
+use borrow.Author.Tests.{eq-eqb, eqb-true, not-true, not-false}
 use Rattle.std.specs.Prelude.{Some, None}
 use Rattle.std.specs.List.{starts_with, slice_get}
 use Rattle.paper.specs.Common.{bytes, is_front_of, any_of}
 use Rattle.paper.specs.Text.{column}
 use Rattle.paper.specs.Listing.{nowhere, row_at, key_at, dashed, alongside, begins_block}
 use Rattle.paper.specs.Page.{place_of}
+use Rattle.text_lines.proofs.Laws.{column_within}
 use Rattle.text_keys.specs.Rows.{Said, key_text, seen, told}
 use Rattle.text_keys.specs.declared.rows.Row.{Row}
 use Rattle.text_keys.specs.declared.rows.Key.{Key}
@@ -42,16 +43,22 @@ pub stands_of : (key k : Key) → key ≡ k → (m n : ℕ) (b d : Bool) → m �
 stands_of key k e m n b d em eb ek ed = rw e (em ∙ ek, eb ∙ ed)
 
 -- a line stands as a key does
-module _ (l : List ℕ) (k m : ℕ) (d : Bool) (e : m ≡ column l) where
-  pub stands_away : (m ≡ k → ⊥) → false ≡ (eqb (column l) k && (not d || dashed l))
-  stands_away n = rw (← e, ne_eqb m k n)
+module _ (l : List ℕ) (k : ℕ) (d t : Bool) (e : t ≡ eqb (column l) k) where
+  pub stands_away : not t ≡ true → false ≡ (eqb (column l) k && (not d || dashed l))
+  stands_away n = let f : eqb (column l) k ≡ false = sym e ∙ not-true t n in rw f refl
 
-  module _ (h : m ≡ k) where
+  module _ (h : not t ≡ false) where
+    stands_there : eqb (column l) k ≡ true
+    stands_there = sym e ∙ not-false t h
+
+    pub stands_within : k ≤ length l
+    stands_within = omega (arith, eqb-true (column l) k stands_there, column_within l)
+
     pub stands_plain : not d ≡ true → not d ≡ (eqb (column l) k && (not d || dashed l))
-    stands_plain t = rw (← e, eq-eqb m k h, t)
+    stands_plain n = rw (stands_there, n) refl
 
     pub stands_dashed : (r : Bool) → not d ≡ false → r ≡ starts_with eqb (take (length l - k) (drop k l)) (bytes "- ") → r ≡ (eqb (column l) k && (not d || dashed l))
-    stands_dashed r t f = rw (← e, eq-eqb m k h, t) (dashed_is l k r (sym h ∙ e) f)
+    stands_dashed r n f = rw (stands_there, n) (dashed_is l k r (sym (eqb-true (column l) k stands_there)) f)
 
 -- ---- the block that begins with the first of some places
 

@@ -55,7 +55,8 @@ pub fn is_under(s: &[u8], a: usize, b: usize) -> bool
 // The number of the place up to which the names ascend.
 pub fn ascending(s: &[u8], places: &[u32], n: usize) -> usize
     requires { n ≤ length places.now }
-    ensures { Ascends s.now places.now (result + 1) }
+    ensures ascends { Ascends s.now places.now (result + 1) }
+    ensures within { result ≤ n }
 {
     let mut last: usize = 0;
     while last + 1 < n {

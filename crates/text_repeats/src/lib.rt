@@ -32,7 +32,8 @@ fn write_places(s: &[u8], places: &mut [u32]) -> usize
     places.len()
 }
 
-// Sorts the places by their names. The sort asks only whether one goes before another, so names that are the same may come as greater.
+// Sorts the places by their names. The sort asks only whether one goes before another, so names that are the same may come as greater, and
+// may end up in either order.
 fn sort(s: &[u8], places: &mut [u32])
     ensures { length places.new ≡ length places.old }
 {
@@ -131,8 +132,9 @@ pub fn names_twice(s: &[u8]) -> bool
     if all_ranked(s, &places, &ranks, last) {
         return false;
     }
-    // the name at which they cease to ascend is the next one's twin
-    if repeats_from(s, word_at(&places, last)) {
+    // two names that follow one another and do not ascend are the same: the one that stands first in the list has its twin behind it
+    let from = word_at(&places, last).min(word_at(&places, last + 1));
+    if repeats_from(s, from) {
         return true;
     }
     repeats_from(s, 0)

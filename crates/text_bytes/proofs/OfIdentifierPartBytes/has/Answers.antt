@@ -2,10 +2,10 @@
 use Rattle.std.proofs.Common.{rules}
 use Rattle.paper.specs.Common.{any_of, up_to}
 use Rattle.paper.specs.Scalars.{identifier_byte}
-use Rattle.text_bytes.specs.Classes.{part_of}
-use Rattle.text_bytes.proofs.Table.{look_marked}
+use Rattle.text_bytes.specs.Marks.{part_mark}
+use Rattle.text_bytes.proofs.Table.{marks, look_part}
 use Rattle.text_bytes.proofs.OfIdentifierPartBytes.has.Goals as goal
 
 pub returns : goal.returns
 unfolding identifier_byte any_of up_to
-returns c = search (rules, look_marked (part_of identifier_byte))
+returns c = search (rules, look_part identifier_byte, marks (part_mark identifier_byte))

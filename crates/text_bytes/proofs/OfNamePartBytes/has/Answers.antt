@@ -2,10 +2,10 @@
 use Rattle.std.proofs.Common.{rules}
 use Rattle.paper.specs.Common.{any_of, up_to}
 use Rattle.paper.specs.Scalars.{name_byte, is_letter, is_digit}
-use Rattle.text_bytes.specs.Classes.{part_of}
-use Rattle.text_bytes.proofs.Table.{look_marked}
+use Rattle.text_bytes.specs.Marks.{part_mark}
+use Rattle.text_bytes.proofs.Table.{marks, look_part}
 use Rattle.text_bytes.proofs.OfNamePartBytes.has.Goals as goal
 
 pub returns : goal.returns
 unfolding name_byte is_letter is_digit any_of up_to
-returns c = search (rules, look_marked (part_of name_byte))
+returns c = search (rules, look_part name_byte, marks (part_mark name_byte))
