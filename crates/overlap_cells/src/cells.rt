@@ -107,7 +107,7 @@ impl Cells {
         Chain {
             frames: frames + 1,
             base: f,
-            rest: c as u16,
+            rest: c as u32,
         }
     }
 }

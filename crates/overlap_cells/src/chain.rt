@@ -4,12 +4,13 @@ ghost use Rattle.overlap_cells.specs.Places.{last_cell, cells};
 
 use crate::cells::LAST;
 
-// A stack of so many frames: its base, and the cell at which the rest of it begins. Small, since many are made and copied.
+// A stack of so many frames: its base, and the cell at which the rest of it begins. `rest` has 32 bits so that a chain has eight bytes:
+// many are made and copied, and each is then one load and one store.
 #[derive(Clone, Copy)]
 pub struct Chain {
     pub frames: u16,
     pub base: u16,
-    pub rest: u16,
+    pub rest: u32,
     pub ghost inside: { rest < cells },
 }
 
@@ -17,7 +18,7 @@ impl Chain {
     pub const NONE: Chain = Chain {
         frames: 0,
         base: 0,
-        rest: LAST as u16,
+        rest: LAST as u32,
     };
 
     // Function f alone.
@@ -29,7 +30,7 @@ impl Chain {
         Chain {
             frames: 1,
             base: f,
-            rest: LAST as u16,
+            rest: LAST as u32,
         }
     }
 }

@@ -18,20 +18,33 @@ pub enum Firsts {
 
 impl Firsts {
     // last: what comes after the two elements may be left out.
+    #[inline(always)]
     pub fn of(functions: &Functions, domain: u16, a: Element, b: Element, last: bool) -> Firsts
         ensures { result ≡ firsts_of functions.now.domains.now (lies_in functions.now.domains.now domain) (meant a) (meant b) last }
     {
-        let Some(function) = functions.common_frame(a, b) else {
-            return match (a, b) {
-                (Element::All, Element::All) => Firsts::BothAll { alone: last },
-                _ => Firsts::Apart,
-            };
-        };
-        let alone = functions.lies_in(domain, function) & last;
         match (a, b) {
-            (Element::All, _) => Firsts::OneAll { function, alone },
-            (_, Element::All) => Firsts::OtherAll { function, alone },
-            _ => Firsts::Same { function, alone },
+            (Element::All, Element::All) => Firsts::BothAll { alone: last },
+            (Element::All, _) => match functions.common_frame(a, b) {
+                Some(function) => Firsts::OneAll {
+                    function,
+                    alone: functions.lies_in(domain, function) & last,
+                },
+                None => Firsts::Apart,
+            },
+            (_, Element::All) => match functions.common_frame(a, b) {
+                Some(function) => Firsts::OtherAll {
+                    function,
+                    alone: functions.lies_in(domain, function) & last,
+                },
+                None => Firsts::Apart,
+            },
+            _ => match functions.common_frame(a, b) {
+                Some(function) => Firsts::Same {
+                    function,
+                    alone: functions.lies_in(domain, function) & last,
+                },
+                None => Firsts::Apart,
+            },
         }
     }
 }

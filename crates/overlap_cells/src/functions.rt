@@ -13,8 +13,8 @@ use paper::limit;
 #[derive(Drop)]
 pub struct Functions<'a> {
     pub domains: &'a [u16],
-    lows: [Option<u16>; limit::DOMAINS],
-    ghost lowest: { Lows domains.now lows } by { Lows-prop domains.now lows },
+    pub lows: [Option<u16>; limit::DOMAINS],
+    pub ghost lowest: { Lows domains.now lows } by { Lows-prop domains.now lows },
 }
 
 impl<'a> Functions<'a> {

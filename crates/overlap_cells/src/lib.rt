@@ -8,9 +8,9 @@ pub mod firsts;
 pub mod functions;
 pub mod pair;
 
-pub use cells::Cells;
+pub use cells::{CELLS, Cells, FILLED, LAST, PLACES};
 pub use chain::Chain;
 pub use element::Element;
 pub use firsts::Firsts;
 pub use functions::Functions;
-pub use pair::Pair;
+pub use pair::{Pair, only_all_from};

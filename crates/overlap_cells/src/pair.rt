@@ -1,8 +1,7 @@
 // Two patterns, and how the first elements of a cell are told.
-ghost use Rattle.std.specs.Prelude.{List, MatchOption, EachIndex, slice_index, ◌≡◌, ◌≤◌, ◌<◌, ◌/◌, ◌%◌, length};
-ghost use Rattle.paper.specs.Limits.{most_elements};
+ghost use Rattle.std.specs.Prelude.{List, MatchOption, EachIndex, slice_index, ◌≡◌, ◌/◌, ◌%◌};
 ghost use Rattle.paper.specs.Match.{lies_in};
-ghost use Rattle.overlap_cells.specs.Places.{places, filled, last_cell};
+ghost use Rattle.overlap_cells.specs.Places.{places, last_cell};
 ghost use Rattle.overlap_cells.specs.Cells.{pattern_from, OnlyAllFrom, OnlyAllFrom-prop, firsts_from, EndsAt, chain_stack};
 ghost use Rattle.overlap_cells.specs.Best.{alone, lowest_in};
 ghost use Rattle.overlap_cells.specs.declared.chain.Chain.{Chain};
@@ -22,8 +21,6 @@ pub struct Pair<'a> {
     q_end: usize,
     ghost p_ended: { OnlyAllFrom p.now p_end } by { OnlyAllFrom-prop p.now p_end },
     ghost q_ended: { OnlyAllFrom q.now q_end } by { OnlyAllFrom-prop q.now q_end },
-    pub ghost p_fits: { length p.now ≤ most_elements },
-    pub ghost q_fits: { length q.now ≤ most_elements },
 }
 
 // The last place with an element other than `all`.
@@ -34,7 +31,7 @@ fn last_other(p: &[u16]) -> Option<usize>
 }
 
 // The place from which on a pattern has only `all`.
-fn only_all_from(p: &[u16]) -> usize
+pub fn only_all_from(p: &[u16]) -> usize
     ensures { OnlyAllFrom p.now result }
 {
     match last_other(p) {
@@ -45,7 +42,6 @@ fn only_all_from(p: &[u16]) -> usize
 
 impl<'a> Pair<'a> {
     pub fn new(functions: &'a Functions<'a>, domain: u16, p: &'a [u16], q: &'a [u16]) -> Self
-        requires { (length p.now ≤ most_elements) × (length q.now ≤ most_elements) }
         ensures domains { result.functions.now.domains.now ≡ functions.now.domains.now }
         ensures domain { result.domain ≡ domain }
         ensures patterns { (result.p.now ≡ p.now) × (result.q.now ≡ q.now) }
@@ -75,8 +71,8 @@ impl<'a> Pair<'a> {
     }
 
     // The first elements of the patterns of cell k.
+    #[inline(always)]
     pub fn firsts(&self, k: usize) -> Firsts
-        requires { k < filled }
         ensures { result ≡ firsts_from self.now.functions.now.domains.now (lies_in self.now.functions.now.domains.now self.now.domain)
             (pattern_from (k / places) self.now.p.now) (pattern_from (k % places) self.now.q.now) }
     {

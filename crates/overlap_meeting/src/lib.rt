@@ -2,7 +2,7 @@
 #![tactic(auto)]
 
 ghost use Rattle.std.specs.Prelude.{ℕ, ◌≡◌, true, [], ◌++◌, map, ◌≤◌, ◌<◌, length, drop};
-ghost use Rattle.paper.specs.Limits.{witness_words};
+ghost use Rattle.paper.specs.Limits.{most_elements, witness_words};
 ghost use Rattle.paper.specs.Table.{element_in};
 ghost use Rattle.paper.specs.Overlap.{witness_left};
 ghost use Rattle.overlap_cells.specs.Element.{meant};
@@ -44,13 +44,17 @@ fn best_of_cell(cells: &Cells, k: usize, firsts: Firsts, lowest: Chain) -> Chain
 
 // Every cell of two elements, the last first.
 fn fill_cells(pair: &Pair, cells: &mut Cells)
-    requires { (c : ℕ) → cell_stack cells.old.chains c ≡ [] }
+    requires p_fits { length pair.now.p.now ≤ most_elements }
+    requires q_fits { length pair.now.q.now ≤ most_elements }
+    requires empty { (c : ℕ) → cell_stack cells.old.chains c ≡ [] }
     ensures { Filled pair.now.functions.now.domains.now pair.now.domain pair.now.p.now pair.now.q.now cells.new.chains 0 }
 {
     let lowest = pair.lowest_alone();
     for k in (0..FILLED).rev() {
-        let firsts = pair.firsts(k);
-        let best = best_of_cell(cells, k, firsts, lowest);
+        let best = match pair.firsts(k) {
+            Firsts::Apart => Chain::NONE,
+            firsts => best_of_cell(cells, k, firsts, lowest),
+        };
         cells.put(k, best);
     }
 }

@@ -6,17 +6,20 @@ use Rattle.overlap_cells.proofs.firsts.Firsts.of.Goals as goal
 pub returns-in-All-All : goal.returns-in-All-All
 returns-in-All-All c = search (rules, firsts_both_all)
 
-pub returns-in_default-2 : goal.returns-in_default-2
-returns-in_default-2 c = search (rules, firsts_apart_other)
+pub returns-in-Some : goal.returns-in-Some
+returns-in-Some c = search (rules, firsts_one_all)
 
-pub returns-in_default-2-2 : goal.returns-in_default-2-2
-returns-in_default-2-2 c = search (rules, firsts_apart_one)
+pub returns-in-None : goal.returns-in-None
+returns-in-None c = search (rules, firsts_apart_other)
 
-pub returns-in-All-default : goal.returns-in-All-default
-returns-in-All-default c = search (rules, firsts_one_all)
+pub returns-in-Some-common_frame : goal.returns-in-Some-common_frame
+returns-in-Some-common_frame c = search (rules, firsts_other_all)
 
-pub returns-in_default-All : goal.returns-in_default-All
-returns-in_default-All c = search (rules, firsts_other_all)
+pub returns-in-None-common_frame : goal.returns-in-None-common_frame
+returns-in-None-common_frame c = search (rules, firsts_apart_one)
 
-pub returns-in_default-3 : goal.returns-in_default-3
-returns-in_default-3 c = search (rules, firsts_same)
+pub returns-in-Some-common_frame-2 : goal.returns-in-Some-common_frame-2
+returns-in-Some-common_frame-2 c = search (rules, firsts_same)
+
+pub returns-in-None-common_frame-2 : goal.returns-in-None-common_frame-2
+returns-in-None-common_frame-2 c = search (rules, firsts_apart_one)
