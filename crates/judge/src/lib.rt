@@ -62,7 +62,7 @@ fn target_domain(t: &[u16], access: Access) -> u16
 fn inside_one_domain(event: Event) -> bool
     ensures { result ≡ (is_code event.access && eqb event.target event.subject) }
 {
-    is_code(event.access) && event.target == event.subject
+    is_code(event.access) && event.target == event.subject as usize
 }
 
 // The verdict, in the paper's order.
@@ -92,7 +92,7 @@ fn verdict(
     let event = Event {
         access,
         subject: domains[f],
-        target: target_domain(t, access),
+        target: target_domain(t, access) as usize,
         ids,
         allocated,
     };

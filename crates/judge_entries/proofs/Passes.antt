@@ -309,6 +309,9 @@ module _ (ws : List ℕ) (k : ℕ) (event : Event) (base running : Words) where
   pub another_subject_tells : (of : Bool) → of ≡ has_subject ws k event → not of ≡ true → MayMatch ws k event base running false
   another_subject_tells of told h = record { refuses = λ s placed b t e. other_subject ws s event placed k (tested_false (has_subject ws k event) of told h) }
 
+  pub may_well : MayMatch ws k event base running true
+  may_well = record { refuses = λ s placed b t e. absurd (false≢true (sym e)) }
+
   module _ (at : ℕ) (stands : at ≡ entry_at k) where
     pub uid_tells : (u : ℕ) (a : Bool) → u ≡ word ws (at + uid_at) → a ≡ sort_fits (sort_in u) event.ids.uid → not a ≡ true → MayMatch ws k event base running false
     uid_tells u a uid told h =

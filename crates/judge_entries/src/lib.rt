@@ -29,7 +29,7 @@ pub fn is_write(access: Access) -> bool
 }
 
 // Where an entry grants calls, or returns.
-fn code_grant_at(access: Access) -> usize
+pub fn code_grant_at(access: Access) -> usize
     ensures { (result ≡ code_grant_at access) × (result ≤ returns_at) }
 {
     if matches!(access, Access::Return(_)) {
@@ -39,7 +39,7 @@ fn code_grant_at(access: Access) -> usize
     }
 }
 
-// Entry k has the subject, and neither its uid nor an end of its pattern tells that it does not match.
+// Entry k has the subject, and neither its uid nor an end of its pattern tells that it does not match, where these are asked.
 fn may_match<R: Reading>(case: &Case, k: usize, base: Words, top: Words) -> bool
     requires k_bound { (k < entry_count case.now.table.now) × (k ≤ word_values) }
     requires ready { Ready R.may_read R.may_ask case.now.table.now case.now.event }
@@ -48,6 +48,9 @@ fn may_match<R: Reading>(case: &Case, k: usize, base: Words, top: Words) -> bool
 {
     if !case.has_subject::<R>(k) {
         return false;
+    }
+    if !R::asks_ends() {
+        return true;
     }
     let at = layout::entry_at(k);
     if !sort_fits(R::word(case.table, at + layout::UID_AT), case.event.ids.uid) {
@@ -89,7 +92,7 @@ fn code_granted<R: Reading>(case: &Case, k: usize, grant: usize, domains: usize)
         case.table,
         layout::entry_at(k) + grant,
         domains,
-        case.event.target as usize,
+        case.event.target,
     )
 }
 

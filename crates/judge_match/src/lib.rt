@@ -29,7 +29,7 @@ pub struct Ids {
 pub struct Event {
     pub access: Access,
     pub subject: u16,
-    pub target: u16,
+    pub target: usize,
     pub ids: Ids,
     pub allocated: Ids,
 }
@@ -151,6 +151,108 @@ pub fn grant_holds<R: Reading>(t: &[u16], at: usize, domains: usize, d: usize) -
     R::holds(t, at + layout::SET_AT, domains, d)
 }
 
+// Entry k has the event's subject.
+pub fn has_subject<R: Reading>(t: &[u16], k: usize, event: Event) -> bool
+    requires k_bound { entry_at k ≤ reach }
+    requires there { R.may_read t.now (entry_at (k + 1)) }
+    ensures { result ≡ has_subject t.now k event }
+{
+    event.subject == R::word(t, layout::entry_at(k) + layout::SUBJECT_AT)
+}
+
+// The context at a place fits the allocated object. The functions are the table's, here and below.
+fn fits_allocated(
+    t: &[u16],
+    functions: &[u16],
+    at: usize,
+    event: &Event,
+    allocation: &[u16],
+) -> bool
+    requires at_bound { at ≤ reach }
+    requires functions_value { functions.now ≡ function_domains_in t.now }
+    ensures { result ≡ fits_allocated (policy_in t.now) (context_in t.now at) (binding event.now) (allocation_of allocation.now event.now) }
+{
+    if !allocated_sorts_fit(t, at, event.ids, event.allocated) {
+        return false;
+    }
+    judge_pattern::matches_stack(functions, table::pattern_at(t, at), allocation)
+}
+
+// It fits the object, which is static where nothing allocated it.
+fn fits_object(t: &[u16], functions: &[u16], at: usize, event: &Event, allocation: &[u16]) -> bool
+    requires at_bound { at ≤ reach }
+    requires functions_value { functions.now ≡ function_domains_in t.now }
+    ensures { result ≡ context_fits_object (policy_in t.now) (context_in t.now at) (binding event.now) (allocation_of allocation.now event.now) }
+{
+    if allocation.is_empty() {
+        return fits_static(t, at);
+    }
+    fits_allocated(t, functions, at, event, allocation)
+}
+
+// The context at a place fits the event's object.
+pub fn context_fits_object(t: &[u16], at: usize, event: Event, allocation: &[u16]) -> bool
+    requires { at ≤ reach }
+    ensures { result ≡ context_fits_object (policy_in t.now) (context_in t.now at) (binding event) (allocation_of allocation.now event) }
+{
+    fits_object(t, table::functions(t), at, &event, allocation)
+}
+
+fn descriptor_grants(
+    t: &[u16],
+    functions: &[u16],
+    d: usize,
+    event: &Event,
+    allocation: &[u16],
+) -> bool
+    requires d_bound { descriptor_at (d + 1) ≤ reach }
+    requires functions_value { functions.now ≡ function_domains_in t.now }
+    ensures { result ≡ descriptor_grants (policy_in t.now) event.now.target (binding event.now) (allocation_of allocation.now event.now) (descriptor_in t.now d) }
+{
+    let at = layout::descriptor_at(d);
+    let domains = table::count(t, layout::OBJECT_DOMAIN_COUNT_AT);
+    if !grant_holds::<Any>(t, at + layout::GRANT_AT, domains, event.target) {
+        return false;
+    }
+    fits_object(t, functions, at, event, allocation)
+}
+
+fn some_grants(
+    t: &[u16],
+    functions: &[u16],
+    first: usize,
+    n: usize,
+    event: &Event,
+    allocation: &[u16],
+) -> bool
+    requires n_bound { descriptor_at (first + n) ≤ reach }
+    requires functions_value { functions.now ≡ function_domains_in t.now }
+    ensures { result ≡ some_descriptor_grants (policy_in t.now) (map (descriptor_in t.now) (count_up first n))
+        event.now.target (binding event.now) (allocation_of allocation.now event.now) }
+{
+    for i in 0..n {
+        if descriptor_grants(t, functions, first + i, event, allocation) {
+            return true;
+        }
+    }
+    false
+}
+
+// One of n descriptors from the first on grants the access.
+pub fn some_descriptor_grants(
+    t: &[u16],
+    first: usize,
+    n: usize,
+    event: Event,
+    allocation: &[u16],
+) -> bool
+    requires { descriptor_at (first + n) ≤ reach }
+    ensures { result ≡ some_descriptor_grants (policy_in t.now) (map (descriptor_in t.now) (count_up first n))
+        event.target (binding event) (allocation_of allocation.now event) }
+{
+    some_grants(t, table::functions(t), first, n, &event, allocation)
+}
+
 impl<'a> Case<'a> {
     // Entry k has the event's subject.
     pub fn has_subject<R: Reading>(&self, k: usize) -> bool
@@ -158,7 +260,7 @@ impl<'a> Case<'a> {
         requires there { R.may_read self.now.table.now (entry_at (k + 1)) }
         ensures { result ≡ has_subject self.now.table.now k self.now.event }
     {
-        self.event.subject == R::word(self.table, layout::entry_at(k) + layout::SUBJECT_AT)
+        has_subject::<R>(self.table, k, self.event)
     }
 
     // Entry k, which has the subject, matches: its sorts fit the event, and its pattern the stack.
@@ -176,48 +278,6 @@ impl<'a> Case<'a> {
         judge_pattern::matches_stack(self.functions, pattern_at::<R>(self.table, at), self.stack)
     }
 
-    // The context at a place fits the allocated object.
-    fn fits_allocated(&self, at: usize) -> bool
-        requires { at ≤ reach }
-        ensures { result ≡ fits_allocated (policy_in self.now.table.now) (context_in self.now.table.now at)
-            (binding self.now.event) (allocation_of self.now.allocation.now self.now.event) }
-    {
-        if !allocated_sorts_fit(self.table, at, self.event.ids, self.event.allocated) {
-            return false;
-        }
-        judge_pattern::matches_stack(
-            self.functions,
-            table::pattern_at(self.table, at),
-            self.allocation,
-        )
-    }
-
-    // It fits the object, which is static where nothing allocated it.
-    fn fits_object(&self, at: usize) -> bool
-        requires { at ≤ reach }
-        ensures { result ≡ context_fits_object (policy_in self.now.table.now) (context_in self.now.table.now at)
-            (binding self.now.event) (allocation_of self.now.allocation.now self.now.event) }
-    {
-        if self.allocation.is_empty() {
-            return fits_static(self.table, at);
-        }
-        self.fits_allocated(at)
-    }
-
-    fn descriptor_grants(&self, d: usize) -> bool
-        requires { descriptor_at (d + 1) ≤ reach }
-        ensures { result ≡ descriptor_grants (policy_in self.now.table.now) self.now.event.target
-            (binding self.now.event) (allocation_of self.now.allocation.now self.now.event) (descriptor_in self.now.table.now d) }
-    {
-        let at = layout::descriptor_at(d);
-        let domains = table::count(self.table, layout::OBJECT_DOMAIN_COUNT_AT);
-        let target = self.event.target as usize;
-        if !grant_holds::<Any>(self.table, at + layout::GRANT_AT, domains, target) {
-            return false;
-        }
-        self.fits_object(at)
-    }
-
     // One of n descriptors from the first on grants the access.
     pub fn some_descriptor_grants(&self, first: usize, n: usize) -> bool
         requires { descriptor_at (first + n) ≤ reach }
@@ -225,11 +285,13 @@ impl<'a> Case<'a> {
             (map (descriptor_in self.now.table.now) (count_up first n)) self.now.event.target
             (binding self.now.event) (allocation_of self.now.allocation.now self.now.event) }
     {
-        for i in 0..n {
-            if self.descriptor_grants(first + i) {
-                return true;
-            }
-        }
-        false
+        some_grants(
+            self.table,
+            self.functions,
+            first,
+            n,
+            &self.event,
+            self.allocation,
+        )
     }
 }

@@ -34,6 +34,9 @@ pub trait Reading {
     fn reaches(t: &[u16], end: usize) -> bool
         ensures { result ≡ true → may_read t.now end };
 
+    // An entry's uid and the ends of its pattern are asked before the whole of it.
+    fn asks_ends() -> bool;
+
     ghost fewer: { (ws : List ℕ) (m n : ℕ) → m ≤ n → may_read ws n → may_read ws m };
 }
 
@@ -59,7 +62,13 @@ impl Reading for Any {
         d < domains && Operation::contains(table::part(t, at, t.len()), d)
     }
 
+    // Words of which nothing is known are gone over once: a quick pass before that would ask each as the slow one does.
     fn reaches(_t: &[u16], _end: usize) -> bool {
-        true
+        false
+    }
+
+    // Nor is an entry's uid asked twice, or its ends.
+    fn asks_ends() -> bool {
+        false
     }
 }

@@ -28,7 +28,7 @@ fn none_holds<R: Reading>(case: &Case, first: usize, n: usize) -> bool
     requires among { R.may_ask case.now.event.target (object_domain_count case.now.table.now) }
     ensures { result ≡ true → NoneGrants case.now.table.now first n case.now.event }
 {
-    let target = case.event.target as usize;
+    let target = case.event.target;
     if !R::reaches(case.table, layout::descriptor_at(first + n) + target / 16) {
         return false;
     }
@@ -157,7 +157,7 @@ fn domains(t: &[u16], access: Access) -> usize
 fn is_whole(t: &[u16], event: Event) -> bool
     ensures { result ≡ true → Whole t.now event }
 {
-    let target = event.target as usize;
+    let target = event.target;
     if limit::DOMAINS <= target {
         return false;
     }

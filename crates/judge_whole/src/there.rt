@@ -32,4 +32,8 @@ impl Reading for There {
     fn reaches(t: &[u16], end: usize) -> bool {
         end <= t.len()
     }
+
+    fn asks_ends() -> bool {
+        true
+    }
 }

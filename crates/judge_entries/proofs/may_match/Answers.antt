@@ -1,6 +1,6 @@
--- Another subject, a uid or an end of the pattern that does not fit: each alone tells.
+-- Another subject, a uid or an end of the pattern that does not fit: each alone tells, where it is asked.
 use Rattle.std.proofs.Common.{rules}
-use Rattle.judge_entries.proofs.Passes.{subject_of_none, subject_known, another_subject_tells, uid_tells, ends_tell}
+use Rattle.judge_entries.proofs.Passes.{subject_of_none, subject_known, another_subject_tells, may_well, uid_tells, ends_tell}
 use Rattle.judge_entries.proofs.may_match.Goals as goal
 
 pub returns-then-not-has_subject-clause-of_subject : goal.returns-then-not-has_subject-clause-of_subject
@@ -8,6 +8,12 @@ returns-then-not-has_subject-clause-of_subject g c = search (rules, subject_of_n
 
 pub returns-then-not-has_subject-clause-may : goal.returns-then-not-has_subject-clause-may
 returns-then-not-has_subject-clause-may g c = search (rules, another_subject_tells)
+
+pub returns-then-not-asks_ends-clause-of_subject : goal.returns-then-not-asks_ends-clause-of_subject
+returns-then-not-asks_ends-clause-of_subject g c = search (rules, subject_known)
+
+pub returns-then-not-asks_ends-clause-may : goal.returns-then-not-asks_ends-clause-may
+returns-then-not-asks_ends-clause-may g c = search (rules, may_well)
 
 pub returns-then-not-sort_fits-clause-of_subject : goal.returns-then-not-sort_fits-clause-of_subject
 returns-then-not-sort_fits-clause-of_subject g c = search (rules, subject_of_none)

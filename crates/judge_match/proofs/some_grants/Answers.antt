@@ -2,7 +2,7 @@
 use Rattle.std.proofs.Common.{rules}
 use Rattle.paper.specs.Match.{some_descriptor_grants}
 use Rattle.judge_match.proofs.Laws.{some_start, some_found, some_later, some_none}
-use Rattle.judge_match.proofs.Case.some_descriptor_grants.Goals as goal
+use Rattle.judge_match.proofs.some_grants.Goals as goal
 
 pub loop-i-init : goal.loop-i-init
 loop-i-init c = search (rules, some_start)
