@@ -10,3 +10,7 @@ inside_of v = cond (bracketed v) (inside v) []
 -- a byte is a comma
 abbrev pub is_comma : ℕ → Bool
 is_comma b = b == comma
+
+-- so many bytes are looked at for commas at a time
+abbrev pub block : ℕ
+block = 32768
