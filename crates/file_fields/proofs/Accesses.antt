@@ -5,13 +5,10 @@ use mathlib.Core.List.{List}
 use Prim.Native.Nat.{ℕ, zero, suc, ◌+◌, ◌-◌, ◌≤◌}
 use native.Mathlib.Omega.{arith}
 use lib.Dec.{eqb}
-use lib.ListN.{length, take, drop}
-use Rattle.std.specs.Prelude.{count_by}
 use Rattle.paper.specs.Common.{bytes, is}
 use Rattle.paper.specs.Entries.{value_at, items_of}
 use Rattle.paper.specs.Rules.{descriptors_of}
-use Rattle.file_fields.proofs.Chains.{counted_between}
-use Rattle.file_fields.specs.Fields.{stands_at, place_in, between, count_at, value_or}
+use Rattle.file_fields.specs.Fields.{place_in, between, count_at, value_or}
 use Rattle.file_fields.specs.Places.{IsAccess}
 use Rattle.file_fields.proofs.Places.{access_default}
 use Rattle.file_fields.proofs.Between.{value_or_lem, count_stretches}
@@ -27,9 +24,9 @@ module _ (access : ℕ) (which : IsAccess access) where
     unfolding descriptors_of
     one_descriptor h = rw (← access_value, ← q, h) refl
 
-    pub items_counted : (n : ℕ) → from ≤ to → to ≤ length list → r ≡ false → n ≡ count_by (stands_at (access + 1)) (take (to - from) (drop from list)) → n ≡ descriptors_of access (between t list from to)
+    pub items_counted : (n : ℕ) → r ≡ false → n ≡ count_at list (access + 1) from (to - from) → n ≡ descriptors_of access (between t list from to)
     unfolding descriptors_of items_of
-    items_counted n a b h f = rw (← access_value, ← q, h) (counted_between list (access + 1) from to a b n f ∙ count_stretches t list (access + 1) from to)
+    items_counted n h f = rw (← access_value, ← q, h) (f ∙ count_stretches t list (access + 1) from to)
 
 count_little : (list : List FieldAt) (place i k : ℕ) → count_at list place i k ≤ k
 unfolding count_at
@@ -40,5 +37,5 @@ count_little list place i (suc k) = go (eqb (place_in list i) place) (count_litt
     go true h = omega arith
     go false h = omega arith
 
-pub few_items : (list : List FieldAt) (place from to n : ℕ) → from ≤ to → to ≤ length list → n ≡ count_by (stands_at place) (take (to - from) (drop from list)) → n ≤ 1 + to
-few_items list place from to n a b e = rw (counted_between list place from to a b n e) (omega (arith, count_little list place from (to - from)))
+pub few_items : (list : List FieldAt) (place from to n : ℕ) → n ≡ count_at list place from (to - from) → n ≤ 1 + to
+few_items list place from to n e = omega (arith, e, count_little list place from (to - from))

@@ -1,7 +1,8 @@
 -- The fields between two numbers of the list: one field at a time, stretch by stretch, and with one put behind them.
 use mathlib.Core.Path.{◌≡◌, refl, sym, ap, ◌∙◌}
 use mathlib.Core.Bool.{Bool, true, false, cond}
-use Rattle.std.proofs.Common.{length-take-le}
+use mathlib.Core.Logic.{⊎_elim}
+use Rattle.std.proofs.Common.{min, length-take-le}
 use mathlib.Core.List.{List, [], ◌∷◌, ◌++◌, map, flat_map, append-nil, map-append}
 use Prim.Native.Nat.{ℕ, zero, suc, ◌+◌, ◌-◌, ◌<◌, ◌≤◌}
 use native.Mathlib.Nat.{zero-add}
@@ -15,6 +16,7 @@ use Rattle.paper.specs.Common.{bytes, is_empty, all_of, count_up}
 use Rattle.paper.specs.Page.{Field}
 use Rattle.paper.specs.Entries.{is_at, default_at, meant, value_at, up_to_next, stretches_from}
 use Rattle.laws.proofs.Counting.{counted_append, all_of_counted, flat_map_append}
+use Rattle.laws.proofs.Tests.{le_or_lt}
 use Rattle.file_fields.specs.Fields.{nowhere_at, value_of, field_of, place_in, start_in, end_in, value_in, field_at, between, bytes_to, next_at, count_at, value_or}
 use Rattle.file_fields.proofs.Laws.{bytes_more}
 use Rattle.file_fields.specs.declared.file.FieldAt.{FieldAt}
@@ -50,6 +52,13 @@ module _ (t : List ℕ) (list : List FieldAt) where
   pub between_none : (i to : ℕ) → to ≤ i → between t list i to ≡ []
   unfolding between
   between_none i to h = let e : to - i ≡ 0 = omega arith in rw e (run_none i)
+
+  -- where the second number is the smaller one there are none, as from there on
+  pub between_least : (i to low : ℕ) → low ≡ min i to → between t list low to ≡ between t list i to
+  between_least i to low e = ⊎_elim
+      (λ (h : i ≤ to). let same : low ≡ i = omega (arith, e) in rw same refl)
+      (λ (h : to < i). rw (between_none low to (omega (arith, e)), between_none i to (omega arith)) refl)
+      (le_or_lt i to)
 
   -- ---- the first of them, and the last
 

@@ -1,5 +1,5 @@
 // Fields of a file that follow one another: all of them, those of an entry, or those of an item.
-ghost use Rattle.std.specs.Prelude.{◌≡◌, ◌+◌, ◌-◌, ◌<◌, ◌≤◌, length, take, drop, count_by, IfSome};
+ghost use Rattle.std.specs.Prelude.{◌≡◌, ◌+◌, ◌-◌, ◌<◌, ◌≤◌, min, length, take, drop, IfSome};
 ghost use Rattle.std.specs.List.{position};
 ghost use Rattle.file_fields.specs.Fields.{is_key, next_at};
 ghost use Rattle.file_fields.specs.Places.{IsAccess, IsContext};
@@ -27,7 +27,7 @@ fn is_key(context: usize, place: usize) -> bool
 
 impl<'a> Stretch<'a> {
     ghost use Rattle.paper.specs.Rules.{descriptors_of};
-    ghost use Rattle.file_fields.specs.Fields.{line_in, stands_at, is_key_of, value_or};
+    ghost use Rattle.file_fields.specs.Fields.{line_in, stands_at, is_key_of, count_at, value_or};
     ghost use Rattle.file_fields.specs.Stretches.{stretch_of, KeysOf, Begins};
 
     pub fn fields(self) -> &'a [FieldAt]
@@ -90,8 +90,8 @@ impl<'a> Stretch<'a> {
     }
 
     // How many of them stand at a place.
-    fn count_at(self, place: usize) -> usize
-        ensures { result ≡ count_by (stands_at place) (take (self.entry.to - self.entry.from) (drop self.entry.from self.entry.file.fields.now)) }
+    pub fn count_at(self, place: usize) -> usize
+        ensures { result ≡ count_at self.entry.file.fields.now place self.entry.from (self.entry.to - self.entry.from) }
     {
         self.fields()
             .iter()
@@ -139,28 +139,33 @@ impl<'a> Stretch<'a> {
 
 impl<'a> File<'a> {
     ghost use Rattle.paper.specs.Listing.{principal};
-    ghost use Rattle.file_fields.specs.Fields.{maps_end};
-    ghost use Rattle.file_fields.specs.Stretches.{IsPart, Begins};
+    ghost use Rattle.file_fields.specs.Fields.{between, maps_end};
+    ghost use Rattle.file_fields.specs.Stretches.{stretch_of, IsPart, Begins};
+
+    // From one number up to another; where the other is the smaller one, there are no fields between them.
+    pub fn part(self, from: usize, to: usize) -> Stretch<'a>
+        requires { to ≤ length self.fields.now }
+        ensures place { IsPart self.entry (min from to) to result }
+        ensures fields { stretch_of result ≡ between self.entry.text.now self.entry.fields.now from to }
+    {
+        Stretch {
+            file: self,
+            from: from.min(to),
+            to,
+        }
+    }
 
     pub fn all(self) -> Stretch<'a>
         ensures { IsPart self.entry 0 (length self.entry.fields.now) result }
     {
-        Stretch {
-            file: self,
-            from: 0,
-            to: self.fields.len(),
-        }
+        self.part(0, self.fields.len())
     }
 
     // The fields up to the last that stands in a map.
     pub fn maps(self) -> Stretch<'a>
         ensures { IsPart self.entry 0 (maps_end self.entry.fields.now (length self.entry.fields.now)) result }
     {
-        Stretch {
-            file: self,
-            from: 0,
-            to: self.maps_end(),
-        }
+        self.part(0, self.maps_end())
     }
 
     pub fn entries(self) -> Stretches<'a>

@@ -3,5 +3,5 @@ use Rattle.std.proofs.Common.{rules}
 use Rattle.file_fields.proofs.Maps.{maps_within}
 use Rattle.file_fields.proofs.file.File.maps.Goals as goal
 
-pub invariant_of-result : goal.invariant_of-result
-invariant_of-result c = search (rules, maps_within)
+pub part-requires : goal.part-requires
+part-requires c = search (rules, maps_within)
