@@ -4,7 +4,8 @@
 ghost use Rattle.std.specs.Prelude.{◌≡◌, ◌++◌, ◌≤◌, length, take, drop, replicate};
 ghost use Rattle.paper.specs.declared.Reading.TheVariants.{Unread};
 ghost use Rattle.paper.specs.Limits.{text_bytes, table_words};
-ghost use Rattle.paper.specs.Rules.{ruled};
+ghost use Rattle.paper.specs.Text.{no_line};
+ghost use Rattle.paper.specs.Rules.{over_limit, ruled};
 ghost use Rattle.paper.specs.Promises.{file_of, reading_of, words_read, read_answer, read_leaves};
 ghost use Rattle.file_fields.specs.Listed.{most_fields};
 ghost use Rattle.file_fields.specs.Stretches.{fields_of};
@@ -58,7 +59,14 @@ fn read_known(file: File, maps: MapNames, words: Words, table: &mut [u16]) -> Re
     if table.len() < limit::TABLE_WORDS {
         return Reading::Accepted;
     }
-    write_table(file, maps, words, table);
+    write_table(
+        file,
+        maps.objects.count,
+        maps.subjects,
+        maps.functions.count,
+        words,
+        table,
+    );
     Reading::Accepted
 }
 
@@ -76,19 +84,18 @@ fn read_named(file: File, maps: MapNames, words: Words, table: &mut [u16]) -> Re
     read_known(file, maps, words, table)
 }
 
-// The rules over the whole file, and then the table.
-fn read_fields(file: File, table: &mut [u16]) -> Reading
+// 7, and then the rules that are left and the table, of a file within the limits. A function of its own, so that its arrays are cleared once,
+// and only where 6 has not refused.
+#[inline(never)]
+fn read_within(file: File, table: &mut [u16]) -> Reading
     requires sound { SoundFile file }
     requires few { length file.fields.now ≤ most_fields }
     requires readable { Readable (fields_of file) }
+    requires within { over_limit (fields_of file) ≡ no_line }
     requires cleared { Cleared table.old }
     ensures value { result ≡ reading_of (ruled (fields_of file.entry)) }
     ensures left { Left (ruled (fields_of file.entry)) table.old table.new }
 {
-    let over = over_limit(file);
-    if over != NO_LINE {
-        return refused(refusal::COUNT, over);
-    }
     let mut objects_ix = [0usize; DOMAINS_SIZE];
     let mut subjects_ix = [0usize; DOMAINS_SIZE];
     let mut functions_ix = [0usize; MEMBERS_SIZE];
@@ -115,6 +122,22 @@ fn read_fields(file: File, table: &mut [u16]) -> Reading
         starts: &starts,
     };
     read_named(file, maps, words, table)
+}
+
+// The rules over the whole file, and then the table.
+fn read_fields(file: File, table: &mut [u16]) -> Reading
+    requires sound { SoundFile file }
+    requires few { length file.fields.now ≤ most_fields }
+    requires readable { Readable (fields_of file) }
+    requires cleared { Cleared table.old }
+    ensures value { result ≡ reading_of (ruled (fields_of file.entry)) }
+    ensures left { Left (ruled (fields_of file.entry)) table.old table.new }
+{
+    let over = over_limit(file);
+    if over != NO_LINE {
+        return refused(refusal::COUNT, over);
+    }
+    read_within(file, table)
 }
 
 // The rules over the whole file, and no table.

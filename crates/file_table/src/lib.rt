@@ -23,7 +23,6 @@ use file_blocks::{write_descriptor, write_entry};
 use file_fields::file::File;
 use file_fields::stretch::Stretch;
 use file_fields::values::element_count;
-use file_index::maps::MapNames;
 use file_index::names::Names;
 use file_words::Words;
 use paper::limit;
@@ -235,12 +234,19 @@ fn write_privileges(
 }
 
 // The words of the file's policy, over zeros.
-pub fn write_table(file: File, maps: MapNames, words: Words, table: &mut [u16])
+pub fn write_table(
+    file: File,
+    objects: usize,
+    subjects: Names,
+    functions: usize,
+    words: Words,
+    table: &mut [u16],
+)
     requires few_fields { length file.fields.now ≤ most_fields }
     requires worded { WordedFile file words }
-    requires of_maps { OfObjects maps.objects.count (fields_of file)
-        × OfSubjects file.text.now maps.subjects.index.now maps.subjects.count (fields_of file)
-        × OfFunctions maps.functions.count (fields_of file) }
+    requires of_maps { OfObjects objects (fields_of file)
+        × OfSubjects file.text.now subjects.index.now subjects.count (fields_of file)
+        × OfFunctions functions (fields_of file) }
     requires in_limits { (all_of is_numbered (fields_of file) ≡ true) × (over_limit (fields_of file) ≡ no_line) }
     requires zeros { (table_words ≤ length table.old) × (take table_words table.old ≡ replicate table_words 0) }
     ensures { table.new ≡ words_of (policy_of (fields_of file.entry)) ++ drop table_words table.old }
@@ -249,15 +255,15 @@ pub fn write_table(file: File, maps: MapNames, words: Words, table: &mut [u16])
     let entries = write_privileges(
         file,
         words,
-        maps.objects.count,
-        maps.subjects,
+        objects,
+        subjects,
         &mut table[layout::ENTRIES_AT..limit::TABLE_WORDS],
     );
     let counts = Counts {
-        object_domains: maps.objects.count,
-        subject_domains: maps.subjects.count,
+        object_domains: objects,
+        subject_domains: subjects.count,
         objects: members,
-        functions: maps.functions.count,
+        functions,
         entries,
     };
     write_head(counts, &mut table[layout::MARK_AT..layout::OBJECTS_AT]);

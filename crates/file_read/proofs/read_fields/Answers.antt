@@ -1,8 +1,7 @@
--- 6, then 7, and then the rules that are left.
+-- 6, and then the rules that are left.
 use Rattle.std.proofs.Common.{rules}
-use Rattle.file_read.proofs.Asked.{over_fits, twice_fits, no_over, words_room, starts_room, fresh_domains, fresh_members}
-use Rattle.file_read.proofs.Asked.{objects_room, subjects_room, functions_room, objects_known, subjects_known, functions_known}
-use Rattle.file_read.proofs.Ruling.{over_answers, over_leaves, twice_answers, twice_leaves, named_answers, named_leaves}
+use Rattle.file_read.proofs.Asked.{over_fits, no_over}
+use Rattle.file_read.proofs.Ruling.{over_answers, over_leaves}
 use Rattle.file_read.proofs.read_fields.Goals as goal
 
 pub refused-requires : goal.refused-requires
@@ -11,69 +10,11 @@ refused-requires c = search (rules, over_fits)
 pub returns-then-over-ne-NO_LINE : goal.returns-then-over-ne-NO_LINE
 returns-then-over-ne-NO_LINE c = search (rules, over_answers, over_leaves)
 
-pub index_names-named-requires-clause-room : goal.index_names-named-requires-clause-room
-index_names-named-requires-clause-room c = (search (rules, words_room), search (rules, starts_room))
-
-pub index_names-named-requires-clause-in_limits : goal.index_names-named-requires-clause-in_limits
-index_names-named-requires-clause-in_limits c = search (rules, no_over)
-
-pub index_names-named-requires-clause-objects_fresh : goal.index_names-named-requires-clause-objects_fresh
-index_names-named-requires-clause-objects_fresh c = search (rules, fresh_domains)
-
-pub index_names-named-requires-clause-subjects_fresh : goal.index_names-named-requires-clause-subjects_fresh
-index_names-named-requires-clause-subjects_fresh c = search (rules, fresh_domains)
-
-pub index_names-named-requires-clause-functions_fresh : goal.index_names-named-requires-clause-functions_fresh
-index_names-named-requires-clause-functions_fresh c = search (rules, fresh_members)
-
-pub index_names-named-requires-clause-starts_fresh : goal.index_names-named-requires-clause-starts_fresh
-index_names-named-requires-clause-starts_fresh c = search (rules, fresh_members)
-
-pub refused-requires-then-named-ne-NO_LINE : goal.refused-requires-then-named-ne-NO_LINE
-refused-requires-then-named-ne-NO_LINE c = search (rules, twice_fits)
-
-pub returns-then-named-ne-NO_LINE : goal.returns-then-named-ne-NO_LINE
-returns-then-named-ne-NO_LINE c = let over = c.over_limit-over.ensures in
-    let none = c.if-over-ne-NO_LINE.false in
-    let twice = c.if-named-ne-NO_LINE.true in
-    record {
-      value = twice_answers _ _ over none _ c.index_names-named.ensures.twice_value twice _ c.refused-then-named-ne-NO_LINE.ensures;
-      left = twice_leaves _ _ over none _ c.index_names-named.ensures.twice_value twice _ c.requires.cleared;
-    }
-
-pub maps_of-maps-requires : goal.maps_of-maps-requires
-maps_of-maps-requires c = let once = c.if-named-ne-NO_LINE.false in
-    record {
-      objects = objects_room _ _ once _ _ _ _ c.index_names-named.ensures.maps;
-      subjects = subjects_room _ _ once _ _ _ _ c.index_names-named.ensures.maps;
-      functions = functions_room _ _ once _ _ _ _ c.index_names-named.ensures.maps;
-    }
-
-pub read_named-requires : goal.read_named-requires
-read_named-requires c = let over = c.over_limit-over.ensures in
-    let none = c.if-over-ne-NO_LINE.false in
-    let once = c.if-named-ne-NO_LINE.false in
-    let indexed = c.index_names-named.ensures in
-    let maps = c.maps_of-maps.ensures in
-    record {
-      numbered = record {
-        sound = c.requires.sound;
-        few = c.requires.few;
-        readable = c.requires.readable;
-        within = no_over _ _ over none;
-        of_objects = objects_known _ _ once _ _ _ _ indexed.maps indexed.distinct _ maps.objects.1;
-        of_subjects = subjects_known _ _ once _ _ _ _ indexed.maps indexed.distinct _ _ maps.subjects.0 maps.subjects.1;
-        of_functions = functions_known _ _ once _ _ _ _ indexed.maps _ maps.functions.1;
-        worded = indexed.worded once;
-      };
-      cleared = c.requires.cleared;
-    }
-
-pub returns : goal.returns
-returns c = let over = c.over_limit-over.ensures in
-    let none = c.if-over-ne-NO_LINE.false in
-    let once = c.if-named-ne-NO_LINE.false in
-    record {
-      value = named_answers _ _ over none _ c.index_names-named.ensures.twice_value once _ c.read_named.ensures.value;
-      left = named_leaves _ _ over none _ c.index_names-named.ensures.twice_value once c.args.table.now _ c.read_named.ensures.left;
-    }
+pub read_within-requires : goal.read_within-requires
+read_within-requires c = record {
+  sound = c.requires.sound;
+  few = c.requires.few;
+  readable = c.requires.readable;
+  within = no_over _ _ c.over_limit-over.ensures c.if-over-ne-NO_LINE.false;
+  cleared = c.requires.cleared;
+}
