@@ -1,3 +1,4 @@
+pub mod Keys
 pub mod Putting
 pub mod Writing
 pub mod Sinks

@@ -11,12 +11,12 @@ use Rattle.text_keys.specs.declared.rows.Row.{Row}
 use Rattle.text_keys.proofs.Looks.{key_of}
 use Rattle.filled_lines.specs.Wrote.{Wrote}
 
-module _ (place : ℕ) (r : Row) (e : seen r ≡ told (row_at place)) (x : List ℕ) (f : x ≡ key_text r.key) where
-  pub key_of_room : (old : List ℕ) → length (key_at place) ≤ length old → length x ≤ length old
-  key_of_room old h = rw (f, key_of place r e) h
+module _ (place : ℕ) (r : Row) (e : seen r ≡ told (row_at place)) where
+  pub key_of_room : (old : List ℕ) → length (key_at place) ≤ length old → length (key_text r.key) ≤ length old
+  key_of_room old h = rw (key_of place r e) h
 
-  pub key_of_wrote : (old out : List ℕ) (n : ℕ) → Wrote x old out n → Wrote (key_at place) old out n
-  key_of_wrote old out n w = rw (f, key_of place r e) at w
+  pub key_of_wrote : (old out : List ℕ) (n : ℕ) → Wrote (key_text r.key) old out n → Wrote (key_at place) old out n
+  key_of_wrote old out n w = rw (key_of place r e) at w
 
 -- ---- a line
 

@@ -24,6 +24,9 @@ copied_all s old out i e h k l =
     let q : i ≡ length s = omega arith in
     record { room = l; far = q; left = e ∙ rw (q, take-length) refl }
 
+pub copied_whole : (s old out : List ℕ) (i : ℕ) → out ≡ take i s ++ drop i old → length s ≤ i → i ≤ length s → length s ≤ length old → Wrote s old out (length s)
+copied_whole s old out i e h k l = let q : i ≡ length s = omega arith in rw q at (copied_all s old out i e h k l)
+
 pub byte_put : (b : ℕ) (old : List ℕ) → 1 ≤ length old → Wrote (b ∷ []) old (set old 0 b) 1
 byte_put b [] h = absurd (omega arith)
 byte_put b (x ∷ xs) h = record { room = h; far = refl; left = refl }
