@@ -4,9 +4,9 @@ ghost use Rattle.export.specs.Numbered.{map_numbered};
 
 use paper::Map;
 
-const OBJECTS: u16 = 1;
+pub const OBJECTS: u16 = 1;
 
-const SUBJECTS: u16 = 2;
+pub const SUBJECTS: u16 = 2;
 
 // The map of a number. No other number is a map's.
 pub fn numbered(number: u16) -> Option<Map>
