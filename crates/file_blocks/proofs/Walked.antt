@@ -49,6 +49,15 @@ copied s out h = sym (one_by_one 0 s out ∙ sets-eq s out 0 (omega (arith, h)) 
 -- ---- the walk
 
 module _ (s : List ℕ) (i : ℕ) where
+  module _ (out whole : List ℕ) (inv : put_from i (drop i s) out ≡ whole) where
+    pub copy_done : length s ≤ i → out ≡ whole
+    unfolding put_from
+    copy_done h = rw (drop_of_length-le s h) at inv
+
+    pub copy_again : i < length s → put_from (i + 1) (drop (i + 1) s) (set out i (get_or s i 0)) ≡ whole
+    unfolding put_from
+    copy_again h = rw (drop_more s i h) at inv
+
   module _ (n : ℕ) (domains whole : List ℕ) (inv : with_words n domains (drop i s) ≡ whole) where
     pub domains_done : length s ≤ i → domains ≡ whole
     unfolding with_words
