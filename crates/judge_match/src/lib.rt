@@ -4,7 +4,7 @@
 
 ghost use Rattle.std.specs.Prelude.{◌≡◌, true, [], map, ◌+◌, ◌/◌, ◌<◌, ◌≤◌};
 ghost use Rattle.paper.specs.Common.{count_up};
-ghost use Rattle.paper.specs.Table.{set_at, subject_at, entry_at, descriptor_at, function_domains_in, pattern_words_in, policy_in, entry_in, context_in, grant_in, descriptor_in, sort_in};
+ghost use Rattle.paper.specs.Table.{set_at, subject_at, entry_at, descriptor_at, object_domain_count, function_domains_in, pattern_words_in, policy_in, entry_in, context_in, grant_in, descriptor_in, sort_in};
 ghost use Rattle.paper.specs.Match.{sort_fits, sorts_fit, allocated_sort_fits, allocated_sorts_fit, sorts_anyone, entry_matches, fits_static, fits_allocated, context_fits_object};
 ghost use Rattle.paper.specs.Match.{grants, descriptor_grants, some_descriptor_grants};
 ghost use Rattle.table.specs.Reach.{reach, word_values};
@@ -198,25 +198,29 @@ pub fn context_fits_object(t: &[u16], at: usize, event: Event, allocation: &[u16
     fits_object(t, table::functions(t), at, &event, allocation)
 }
 
+// Descriptor d grants the access, by its grant among so many domains, and by its context.
+#[inline(always)]
 fn descriptor_grants(
     t: &[u16],
     functions: &[u16],
     d: usize,
+    domains: usize,
     event: &Event,
     allocation: &[u16],
 ) -> bool
     requires d_bound { descriptor_at (d + 1) ≤ reach }
     requires functions_value { functions.now ≡ function_domains_in t.now }
+    requires domains_value { domains ≡ object_domain_count t.now }
     ensures { result ≡ descriptor_grants (policy_in t.now) event.now.target (binding event.now) (allocation_of allocation.now event.now) (descriptor_in t.now d) }
 {
     let at = layout::descriptor_at(d);
-    let domains = table::count(t, layout::OBJECT_DOMAIN_COUNT_AT);
     if !grant_holds::<Any>(t, at + layout::GRANT_AT, domains, event.target) {
         return false;
     }
     fits_object(t, functions, at, event, allocation)
 }
 
+// One of n descriptors from the first on grants the access. How many domains there are is asked once.
 fn some_grants(
     t: &[u16],
     functions: &[u16],
@@ -230,8 +234,9 @@ fn some_grants(
     ensures { result ≡ some_descriptor_grants (policy_in t.now) (map (descriptor_in t.now) (count_up first n))
         event.now.target (binding event.now) (allocation_of allocation.now event.now) }
 {
+    let domains = table::count(t, layout::OBJECT_DOMAIN_COUNT_AT);
     for i in 0..n {
-        if descriptor_grants(t, functions, first + i, event, allocation) {
+        if descriptor_grants(t, functions, first + i, domains, event, allocation) {
             return true;
         }
     }
