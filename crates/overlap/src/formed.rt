@@ -5,6 +5,7 @@ ghost use Rattle.paper.specs.Table.{subject_at, uid_at, entry_at, word, sort_in,
 ghost use Rattle.paper.specs.Table.{pattern_words_in, function_domains_in, well_formed};
 ghost use Rattle.paper.specs.Overlap.{witness_uid};
 ghost use Rattle.paper.specs.declared.Report.TheVariants.{Clash};
+ghost use Rattle.overlap_cells.specs.Best.{Lows};
 ghost use Rattle.overlap_meeting.specs.Written.{Written};
 ghost use Rattle.overlap.specs.Clash.{apart, may_clash, table_stack};
 ghost use Rattle.overlap.specs.Told.{NoneBefore, FirstAfter, FirstOfAll};
@@ -34,11 +35,16 @@ fn uids_apart(a: u16, b: u16) -> bool
 }
 
 impl<'a> Formed<'a> {
-    pub fn new(words: &'a [u16]) -> Self
-        requires { well_formed words.now ≡ true }
+    // lows: the lowest function of each domain.
+    pub fn new(words: &'a [u16], lows: &'a [Option<u16>]) -> Self
+        requires formed { well_formed words.now ≡ true }
+        requires lowest { Lows (function_domains_in words.now) lows.now }
         ensures { result.words.now ≡ words.now }
     {
-        let functions = Functions::new(table::functions(words));
+        let functions = Functions {
+            domains: table::functions(words),
+            lows,
+        };
         Formed { words, functions }
     }
 

@@ -23,5 +23,6 @@ pub fn overlap(table: &[u16], witness: &mut [u16]) -> Report
             number: refusal::WITNESS_TOO_SHORT,
         };
     }
-    Formed::new(table).first_clash(witness)
+    let lows = overlap_cells::lowest_functions(table::functions(table));
+    Formed::new(table, &lows).first_clash(witness)
 }

@@ -9,26 +9,27 @@ ghost use Rattle.overlap_cells.specs.Best.{alone, lowest_in, lowest_frame, commo
 use crate::Element;
 use paper::limit;
 
-// The domain of each function, and the lowest function of each domain, worked out once for a report.
+// The domain of each function, and the lowest function of each domain, lent by whoever has them.
 #[derive(Drop)]
 pub struct Functions<'a> {
     pub domains: &'a [u16],
-    pub lows: [Option<u16>; limit::DOMAINS],
-    pub ghost lowest: { Lows domains.now lows } by { Lows-prop domains.now lows },
+    pub lows: &'a [Option<u16>],
+    pub ghost lowest: { Lows domains.now lows.now } by { Lows-prop domains.now lows.now },
+}
+
+// The lowest function of each domain: worked out once for a report.
+pub fn lowest_functions(domains: &[u16]) -> [Option<u16>; limit::DOMAINS]
+    requires { (length domains.now ≤ most_members) × InDomains domains.now }
+    ensures { Lows domains.now result }
+{
+    let mut lows = [None; limit::DOMAINS];
+    for f in (0..domains.len()).rev() {
+        lows[domains[f] as usize] = Some(f as u16);
+    }
+    lows
 }
 
 impl<'a> Functions<'a> {
-    pub fn new(domains: &'a [u16]) -> Self
-        requires { (length domains.now ≤ most_members) × InDomains domains.now }
-        ensures { result.domains.now ≡ domains.now }
-    {
-        let mut lows = [None; limit::DOMAINS];
-        for f in (0..domains.len()).rev() {
-            lows[domains[f] as usize] = Some(f as u16);
-        }
-        Functions { domains, lows }
-    }
-
     // The lowest function in a domain.
     pub fn lowest_in(&self, domain: u16) -> Option<u16>
         ensures { frame_of result ≡ alone self.now.domains.now (lowest_in self.now.domains.now domain) }

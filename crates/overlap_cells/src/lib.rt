@@ -12,5 +12,5 @@ pub use cells::{CELLS, Cells, FILLED, LAST, PLACES};
 pub use chain::Chain;
 pub use element::Element;
 pub use firsts::Firsts;
-pub use functions::Functions;
+pub use functions::{Functions, lowest_functions};
 pub use pair::{Pair, only_all_from};

@@ -2,7 +2,7 @@
 use Rattle.std.proofs.Common.{◌≡◌, length}
 use Rattle.paper.specs.Limits.{most_domains}
 use Rattle.overlap_cells.proofs.Lowest.{LowsFrom}
-use Rattle.overlap_cells.proofs.functions.Functions.new.Given as goal
+use Rattle.overlap_cells.proofs.functions.lowest_functions.Given as goal
 
 abbrev pub invariant-loop-f : goal.invariant-loop-f
 invariant-loop-f l = (length l.lows ≡ most_domains) × LowsFrom l.domains l.lows l.f
