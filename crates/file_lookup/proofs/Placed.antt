@@ -67,7 +67,8 @@ at_place_are t place [] = refl
 at_place_are t place (f ∷ fs) = go (eqb f.place place) (at_place_are t place fs)
   where
     go : (b : Bool) → fields_at place (map (field_of t) fs) ≡ map (field_of t) (filter (stands_at place) fs)
-        → cond b (field_of t f ∷ fields_at place (map (field_of t) fs)) (fields_at place (map (field_of t) fs)) ≡ map (field_of t) (cond b (f ∷ filter (stands_at place) fs) (filter (stands_at place) fs))
+        → cond b (field_of t f ∷ fields_at place (map (field_of t) fs)) (fields_at place (map (field_of t) fs))
+        ≡ map (field_of t) (cond b (f ∷ filter (stands_at place) fs) (filter (stands_at place) fs))
     go true h = ap (λ (l : List Field). field_of t f ∷ l) h
     go false h = h
 
@@ -76,7 +77,8 @@ module _ (t : List ℕ) (fs : List FieldAt) (d : ℕ) where
   pub looked_up : (f : FieldAt) → slice_get fs d ≡ Some f → name_among (map (field_of t) fs) d ≡ stretch_of (field_of t f)
   unfolding name_among
   looked_up f e =
-      let g : get_or (map (field_of t) fs) d no_field ≡ field_of t f = get_or_from_slice_get (map (field_of t) fs) d (field_of t f) no_field (slice_get-map (field_of t) fs d ∙ ap (option_map (field_of t)) e) in
+      let g : get_or (map (field_of t) fs) d no_field ≡ field_of t f =
+      get_or_from_slice_get (map (field_of t) fs) d (field_of t f) no_field (slice_get-map (field_of t) fs d ∙ ap (option_map (field_of t)) e) in
       rw (length-map, lt-ltb d (length fs) (slice_get_within fs d f e), g) refl
 
   pub looked_past : slice_get fs d ≡ None → name_among (map (field_of t) fs) d ≡ front

@@ -181,7 +181,7 @@ module _ (F : List ℕ) (d : ℕ) (P Q : List ℕ) (K : List Chain) where
           go (inl z) = subst (λ (c : ℕ). cell_stack M c ≡ from F d P Q (c / places) (c % places)) z (stable_chain K M (k - 1) y there others onward far ∙ this)
           go (inr z) = stable_cell K M (k - 1) y there others onward c z b ∙ so_far c (omega arith) b
 
-    -- the same, with the store first
+    -- a cell is filled, where what the store says is known before the cell's chain is
     pub cell_stored : (x : Firsts) (low : List ℕ) (M : List Chain) (y : Chain) → cell_at M (k - 1) ≡ y → ((c : ℕ) → (c ≡ k - 1 → ⊥) → cell_at M c ≡ cell_at K c) → Onward K →
         0 < k → k ≤ filled → length P ≤ most_elements → length Q ≤ most_elements →
         x ≡ firsts_from F (lies_in F d) (pattern_from ((k - 1) / places) P) (pattern_from ((k - 1) % places) Q) → low ≡ alone F (lowest_in F d) →

@@ -103,7 +103,7 @@ fn is_new_sum(sums: &[u32], sum: u32) -> bool
     sums.iter().fold(true, |new, s| new & (*s != sum))
 }
 
-// The same of the entry behind those of the sums: principals are compared only where sums are equal.
+// The principal of the entry behind those of the sums is new: principals are compared only where sums are equal.
 fn is_new_by_sum(t: &[u16], sums: &[u32], sum: u32) -> bool
     requires short { length sums.now ≤ most_entries }
     requires summed { Summed t.now sums.now }
