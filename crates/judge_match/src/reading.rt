@@ -34,8 +34,11 @@ pub trait Reading {
     fn reaches(t: &[u16], end: usize) -> bool
         ensures { result ≡ true → may_read t.now end };
 
-    // An entry's uid and the ends of its pattern are asked before the whole of it.
-    fn asks_ends() -> bool;
+    // A quick pass goes before the whole of an entry: over its uid and the ends of its pattern, and over its descriptors' domains. It does so
+    // wherever a way to read does not say otherwise.
+    fn asks_ends() -> bool {
+        true
+    }
 
     ghost fewer: { (ws : List ℕ) (m n : ℕ) → m ≤ n → may_read ws n → may_read ws m };
 }
@@ -62,13 +65,52 @@ impl Reading for Any {
         d < domains && Operation::contains(table::part(t, at, t.len()), d)
     }
 
-    // Words of which nothing is known are gone over once: a quick pass before that would ask each as the slow one does.
     fn reaches(_t: &[u16], _end: usize) -> bool {
-        false
+        true
     }
 
-    // Nor is an entry's uid asked twice, or its ends.
+    // Words of which nothing is known are gone over once: a quick pass before that would ask each as the slow one does.
     fn asks_ends() -> bool {
         false
+    }
+}
+
+#[cfg(test)]
+mod tests {
+    use super::*;
+
+    // A way to read that says nothing of the quick pass.
+    struct Silent;
+
+    impl Reading for Silent {
+        ghost may_read = { λ ws n. Unit {0} };
+
+        ghost may_ask = { λ d domains. Unit {0} };
+
+        ghost fewer = { λ ws m n h p. p };
+
+        fn word(t: &[u16], at: usize) -> u16 {
+            table::word(t, at)
+        }
+
+        fn part(t: &[u16], at: usize, n: usize) -> &[u16] {
+            table::part(t, at, n)
+        }
+
+        fn holds(t: &[u16], at: usize, domains: usize, d: usize) -> bool {
+            d < domains && Operation::contains(table::part(t, at, t.len()), d)
+        }
+
+        fn reaches(_t: &[u16], _end: usize) -> bool {
+            true
+        }
+    }
+
+    // No clause says these: they tell only what is asked first.
+    #[test]
+    fn quick_pass_and_reach(rt: HostRuntime) {
+        assert!(rt; Silent::asks_ends());
+        assert!(rt; !Any::asks_ends());
+        assert!(rt; Any::reaches(&[], 1));
     }
 }

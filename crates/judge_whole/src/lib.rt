@@ -22,12 +22,15 @@ use judge_match::{Case, Event, grant_holds};
 use paper::{Access, Verdict, limit};
 use table::layout;
 
-// None of n descriptors from the first on, which may be read, holds the target's domain.
+// None of n descriptors from the first on, which may be read, holds the target's domain, where this is asked.
 fn none_holds<R: Reading>(case: &Case, first: usize, n: usize) -> bool
     requires n_bound { descriptor_at (first + n) ≤ reach }
     requires among { R.may_ask case.now.event.target (object_domain_count case.now.table.now) }
     ensures { result ≡ true → NoneGrants case.now.table.now first n case.now.event }
 {
+    if !R::asks_ends() {
+        return false;
+    }
     let target = case.event.target;
     if !R::reaches(case.table, layout::descriptor_at(first + n) + target / 16) {
         return false;

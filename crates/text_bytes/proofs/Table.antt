@@ -1,6 +1,6 @@
 -- A table of bytes: one test, computed over all of it, gives its rule at each byte.
 use mathlib.Core.Path.{◌≡◌, refl}
-use mathlib.Core.Bool.{Bool, true, false, cond, not, ◌&&◌}
+use mathlib.Core.Bool.{Bool, true, false, cond, not, beq, ◌&&◌}
 use mathlib.Core.List.{List}
 use Prim.Native.Nat.{ℕ, suc, ◌+◌, ◌<◌, ◌≤◌}
 use native.Mathlib.Omega.{arith}
@@ -35,14 +35,29 @@ passes_is true false = refl
 passes_is false p = refl
 
 module _ (f : ℕ → Bool) (table : List ℕ) (b : ℕ) where
-  pub look_marked : Marks (λ b. mark (f b)) table → b < 256 → eqb (get_or table b 0) (code "1") ≡ f b
-  look_marked m below = rw (m.right b below) (mark_is (f b))
+  pub look_whole : Marks (λ b. mark (f b)) table → b < 256 → eqb (get_or table b 0) (code "1") ≡ f b
+  look_whole m below = rw (m.right b below) (mark_is (f b))
 
   pub look_part : Marks (part_mark f) table → b < 256 → eqb (get_or table b 0) (code "1") ≡ part_of f b
   look_part m below = rw (m.right b below) (part_is (f b) (eqb b bar))
 
-  pub look_unlike : Marks (part_mark f) table → b < 256 → not (eqb (get_or table b 0) (code "0")) ≡ f b
-  look_unlike m below = rw (m.right b below) (passes_is (f b) (eqb b bar))
+  pub look_passing : Marks (part_mark f) table → b < 256 → not (eqb (get_or table b 0) (code "0")) ≡ f b
+  look_passing m below = rw (m.right b below) (passes_is (f b) (eqb b bar))
+
+-- ---- a table of any marks: what one test of it, computed, says of a byte
+
+is_beq : (a b : Bool) → beq a b ≡ true → a ≡ b
+is_beq true true e = refl
+is_beq false false e = refl
+is_beq true false e = cc
+is_beq false true e = cc
+
+module _ (f : ℕ → Bool) (table : List ℕ) (b : ℕ) where
+  pub look_marked : up_to (λ b. beq (eqb (get_or table b 0) (code "1")) (f b)) 256 ≡ true → b < 256 → eqb (get_or table b 0) (code "1") ≡ f b
+  look_marked h below = is_beq _ _ (up_to_at (λ b. beq (eqb (get_or table b 0) (code "1")) (f b)) 256 h b below)
+
+  pub look_unlike : up_to (λ b. beq (not (eqb (get_or table b 0) (code "0"))) (f b)) 256 ≡ true → b < 256 → not (eqb (get_or table b 0) (code "0")) ≡ f b
+  look_unlike h below = is_beq _ _ (up_to_at (λ b. beq (not (eqb (get_or table b 0) (code "0"))) (f b)) 256 h b below)
 
 -- ---- the loop: the bytes that pass end from i on where they end from `at` on
 
