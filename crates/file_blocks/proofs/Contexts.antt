@@ -127,7 +127,8 @@ module _ (out : List ℕ) (z : out ≡ replicate context_size 0) where
         unfolding context_of_words
         context_written uid gid namespace ys eu eg en ec ey =
             let w : ys ≡ padded most_elements s = ey ∙ rw z (words_written most_elements s (few_words words starts i to h s e few)) in
-            rw (pattern_found words starts i to h, ← e, z, w, ec, eu, eg, en) (ap (λ (l : List ℕ). length s ∷ sort_number (sort_of uid) ∷ sort_number (sort_of gid) ∷ sort_number (sort_of namespace) ∷ l)
+            rw (pattern_found words starts i to h, ← e, z, w, ec, eu, eg, en)
+            (ap (λ (l : List ℕ). length s ∷ sort_number (sort_of uid) ∷ sort_number (sort_of gid) ∷ sort_number (sort_of namespace) ∷ l)
             (append-nil (padded most_elements s)))
 
 pub length_context : (pattern uid gid namespace : List ℕ) → length pattern ≤ most_elements → length (context_of_words pattern uid gid namespace) ≡ context_size

@@ -170,7 +170,8 @@ module _ (t : List ℕ) (list : List FieldAt) where
   value_before omitted none p i (suc k) h = rw (run_more i k) (go (eqb (place_in list i) p) refl h (value_before omitted none p (i + 1) k))
     where
       go : (e : Bool) → eqb (place_in list i) p ≡ e → cond e i (next_at list p (i + 1) k) < i + suc k
-          → (next_at list p (i + 1) k < i + 1 + k → value_or omitted none p (run (i + 1) k) ≡ cond (is_empty (value_in t list (next_at list p (i + 1) k))) none (value_in t list (next_at list p (i + 1) k)))
+          → (next_at list p (i + 1) k < i + 1 + k
+          → value_or omitted none p (run (i + 1) k) ≡ cond (is_empty (value_in t list (next_at list p (i + 1) k))) none (value_in t list (next_at list p (i + 1) k)))
           → cond (is_at p (field_at t list i)) (cond (is_empty (field_at t list i).value) none (field_at t list i).value) (value_or omitted none p (run (i + 1) k))
           ≡ cond (is_empty (value_in t list (cond e i (next_at list p (i + 1) k)))) none (value_in t list (cond e i (next_at list p (i + 1) k)))
       go true q l ih = rw (place_at i p true q, value_at_place i) refl

@@ -103,7 +103,9 @@ module _ (list : List FieldAt) where
 
     pub value_first : (i : ℕ) (f : FieldAt) → position (stands_at place) (take (to - from) (drop from list)) ≡ Some i → i < length (take (to - from) (drop from list))
         → f ≡ get_or (take (to - from) (drop from list)) i f → cond (is_empty (value_of t f)) none (value_of t f) ≡ values
-    value_first i f e l q = sym (value_found t list place from to omitted none (from + i) (next_found place from to ordered listed i e) (omega (arith, l, size)) ∙ ap (λ (x : FieldAt). cond (is_empty (value_of t x)) none (value_of t x)) (sym here))
+    value_first i f e l q =
+        sym (value_found t list place from to omitted none (from + i) (next_found place from to ordered listed i e) (omega (arith, l, size))
+        ∙ ap (λ (x : FieldAt). cond (is_empty (value_of t x)) none (value_of t x)) (sym here))
       where
         size : length (take (to - from) (drop from list)) ≡ to - from
         size = length-take-le (to - from) (drop from list) (omega (arith, length-drop from list))

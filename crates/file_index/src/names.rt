@@ -81,7 +81,7 @@ impl<'a> Names<'a> {
         self.number_hashed(t, self.hash(name), name)
     }
 
-    // The same, its hash being known.
+    // The number of a name whose hash h is known; how many names there are where it is none of them.
     pub fn number_hashed(self, t: &[u8], h: usize, name: &[u8]) -> usize
         requires { h ≡ hash_of (multiplier_in self.index.now) name.now }
         ensures { (result ≡ numbers_in t.now self.entry.index.now self.entry.count name.now) × (result ≤ self.entry.count) }

@@ -85,7 +85,8 @@ module _ (t : List ℕ) (fs : List FieldAt) (d : ℕ) where
   unfolding name_among
   looked_past e = ⊎_elim
       (λ (h : length fs ≤ d). rw (length-map, le-ltb d (length fs) h) refl)
-      (λ (h : d < length fs). let g : slice_get fs d ≡ Some (get_or fs d nowhere_at) = slice_get-get_or fs d nowhere_at h in absurd (let z : ◌≡◌ {A = Option FieldAt} None (Some (get_or fs d nowhere_at)) = sym e ∙ g in cc))
+      (λ (h : d < length fs). let g : slice_get fs d ≡ Some (get_or fs d nowhere_at) = slice_get-get_or fs d nowhere_at h in
+      absurd (let z : ◌≡◌ {A = Option FieldAt} None (Some (get_or fs d nowhere_at)) = sym e ∙ g in cc))
       (le_or_lt (length fs) d)
 
 module _ (t : List ℕ) (list : List FieldAt) (place d : ℕ) (r : Option FieldAt) (q : r ≡ slice_get (filter (stands_at place) list) d) where

@@ -272,7 +272,8 @@ module _ (t : List ℕ) (list : List FieldAt) (ix : List ℕ) (i : ℕ) (naming 
     pub as_domains : (n : ℕ) → Index t ix n (names_to (named naming) t list i) → Index t ix n (names_to (named_at one other) t list i)
     as_domains n h = rw e at h
 
-    pub room_domains : (n : ℕ) → names_at + name_size * (n + length (named naming (field_at t list i))) ≤ length ix → names_at + name_size * (n + length (named_at one other (field_at t list i))) ≤ length ix
+    pub room_domains : (n : ℕ) → names_at + name_size * (n + length (named naming (field_at t list i))) ≤ length ix
+        → names_at + name_size * (n + length (named_at one other (field_at t list i))) ≤ length ix
     room_domains n h = rw e at h
 
     pub from_domains : (r : Option ℕ) → EnteredAs t ix (names_to (named_at one other) t list i) (named_at one other (field_at t list i)) r

@@ -34,8 +34,8 @@ pub trait Reading {
     fn reaches(t: &[u16], end: usize) -> bool
         ensures { result ≡ true → may_read t.now end };
 
-    // A quick pass goes before the whole of an entry: over its uid and the ends of its pattern, and over its descriptors' domains. It does so
-    // wherever a way to read does not say otherwise.
+    // A quick pass goes before the whole of an entry, over its uid, the ends of its pattern and its descriptors' domains, unless a way to
+    // read says otherwise.
     fn asks_ends() -> bool {
         true
     }
@@ -79,7 +79,7 @@ impl Reading for Any {
 mod tests {
     use super::*;
 
-    // A way to read that says nothing of the quick pass.
+    // A way to read like `Any`, but that says nothing of the quick pass.
     struct Silent;
 
     impl Reading for Silent {
@@ -90,19 +90,19 @@ mod tests {
         ghost fewer = { λ ws m n h p. p };
 
         fn word(t: &[u16], at: usize) -> u16 {
-            table::word(t, at)
+            Any::word(t, at)
         }
 
         fn part(t: &[u16], at: usize, n: usize) -> &[u16] {
-            table::part(t, at, n)
+            Any::part(t, at, n)
         }
 
         fn holds(t: &[u16], at: usize, domains: usize, d: usize) -> bool {
-            d < domains && Operation::contains(table::part(t, at, t.len()), d)
+            Any::holds(t, at, domains, d)
         }
 
-        fn reaches(_t: &[u16], _end: usize) -> bool {
-            true
+        fn reaches(t: &[u16], end: usize) -> bool {
+            Any::reaches(t, end)
         }
     }
 

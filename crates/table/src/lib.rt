@@ -17,7 +17,7 @@ pub fn word(t: &[u16], at: usize) -> u16
     t.get(at).copied().unwrap_or(0)
 }
 
-// The same as a number to count and index with.
+// The word at a place, as a number to count and index with.
 pub fn count(t: &[u16], at: usize) -> usize
     ensures { (result ≡ word t.now at) × (result < word_values) }
 {
